@@ -1,0 +1,4 @@
+-- The laws of tests and of bounded search.
+pub mod Tests
+pub mod Search
+pub mod Any

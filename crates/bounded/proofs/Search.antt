@@ -1,0 +1,76 @@
+-- What a bounded search answers.
+--     LeastIs, LastIs      what an answer says, by the answer
+--     least-is, last-is    the answer of the search says it
+--     least-of, none-of    the answer from what it says: of a loop that goes up, what it passed over and what it stops at
+--     past-more            of a loop that goes down: one more number that is passed over
+-- Assumes nothing.
+use mathlib.Core.Path.{_≡_, refl, ap, subst}
+use mathlib.Core.Logic.{⊎-elim}
+use mathlib.Core.Bool.{Bool, true, false}
+use mathlib.Core.Option.{Option, none, some}
+use Prim.Native.Nat.{ℕ, zero, suc, _-_, _≤_, _<_}
+use native.Mathlib.Nat.{not-suc-le-zero, le-of-suc-le-suc, eq-or-lt-of-le}
+use native.Mathlib.Omega.{arith}
+use Rattle.bounded.specs.Bounded.{leastBelow, lastBelow, NoneBelow, Least, Last}
+use Rattle.bounded.proofs.Tests.{clash, lt-or-le}
+
+abbrev pub LeastIs : (ℕ → Bool) → ℕ → Option ℕ → Type 0
+LeastIs p n none = NoneBelow p n
+LeastIs p n (some g) = Least p n g
+
+abbrev pub LastIs : (ℕ → Bool) → ℕ → Option ℕ → Type 0
+LastIs p n none = NoneBelow p n
+LastIs p n (some g) = Last p n g
+
+module _ (p : ℕ → Bool) where
+  none-more : (n : ℕ) → NoneBelow p n → p n ≡ false → NoneBelow p (suc n)
+  none-more n all here k h = ⊎-elim (λ e. rw e here) (λ l. all k l) (eq-or-lt-of-le (le-of-suc-le-suc h))
+
+  pub last-is : (n : ℕ) → LastIs p n (lastBelow p n)
+  unfolding lastBelow
+  last-is zero = λ k h. absurd (not-suc-le-zero h)
+  last-is (suc n) = go (p n) refl (last-is n)
+    where
+      up : (o : Option ℕ) → p n ≡ false → LastIs p n o → LastIs p (suc n) o
+      up none e all = none-more n all e
+      up (some g) e l = record {
+        below = omega (arith, l .below);
+        passes = l .passes;
+        greatest = λ k h t. ⊎-elim (λ q. absurd (clash (p n) (rw q at t) e)) (λ lt. l .greatest k lt t) (eq-or-lt-of-le (le-of-suc-le-suc h));
+      }
+
+      go : (b : Bool) → p n ≡ b → LastIs p n (lastBelow p n) → LastIs p (suc n) (elim b [ true ↦ some n | false ↦ lastBelow p n ])
+      go true e l = record { below = omega arith; passes = e; greatest = λ k h t. le-of-suc-le-suc h }
+      go false e l = up (lastBelow p n) e l
+
+  pub least-is : (n : ℕ) → LeastIs p n (leastBelow p n)
+  unfolding leastBelow
+  least-is zero = λ k h. absurd (not-suc-le-zero h)
+  least-is (suc n) = go (leastBelow p n) (p n) refl (least-is n)
+    where
+      go : (o : Option ℕ) (b : Bool) → p n ≡ b → LeastIs p n o
+          → LeastIs p (suc n) (elim o [ some g ↦ some g | none ↦ elim b [ true ↦ some n | false ↦ none ] ])
+      go none true e all = record { below = omega arith; passes = e; least = all }
+      go none false e all = none-more n all e
+      go (some g) b e l = record { below = omega (arith, l .below); passes = l .passes; least = l .least }
+
+pub past-more : (P : ℕ → Type 0) (k : ℕ) → ((j : ℕ) → k < j → P j) → P k → (j : ℕ) → k - 1 < j → P j
+past-more P k all here j h = ⊎-elim (λ e. subst P e here) (λ l. all j l) (eq-or-lt-of-le (let le : k ≤ j = omega arith in le))
+
+module _ (p : ℕ → Bool) (n : ℕ) where
+  pub least-of : (s : ℕ) → s < n → NoneBelow p s → p s ≡ true → leastBelow p n ≡ some s
+  least-of s h none-yet t = go (leastBelow p n) (least-is p n)
+    where
+      go : (o : Option ℕ) → LeastIs p n o → o ≡ some s
+      go none all = absurd (clash (p s) t (all s h))
+      go (some g) l = ap some (⊎-elim
+          (λ lt. absurd (clash (p g) (l .passes) (none-yet g lt)))
+          (λ le. ⊎-elim (λ lt. absurd (clash (p s) t (l .least s lt))) (λ ge. omega arith) (lt-or-le s g))
+          (lt-or-le g s))
+
+  pub none-of : NoneBelow p n → leastBelow p n ≡ none
+  none-of none-yet = go (leastBelow p n) (least-is p n)
+    where
+      go : (o : Option ℕ) → LeastIs p n o → o ≡ none
+      go none all = refl
+      go (some g) l = absurd (clash (p g) (l .passes) (none-yet g (l .below)))

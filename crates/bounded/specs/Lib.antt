@@ -1,0 +1,2 @@
+-- Bounded search: the least and the greatest number below a bound that passes a test.
+pub mod Bounded

@@ -1,0 +1,2 @@
+-- The law of writing into a lent buffer.
+pub mod Outcome

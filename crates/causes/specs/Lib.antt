@@ -1,0 +1,3 @@
+-- The refusal sheet, and what a call leaves behind.
+pub mod Sheet
+pub mod Outcome

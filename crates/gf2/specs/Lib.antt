@@ -1,0 +1,2 @@
+-- Words as vectors of bits.
+pub mod Words
