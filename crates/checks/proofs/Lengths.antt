@@ -1,0 +1,32 @@
+-- Cause 3, as the code tests it, one test after the other.
+--     cubes-depth, cubes-slices, cubes-rest     a set that comes as cubes
+--     list-slices, list-seeds                   a seed list
+-- Assumes nothing.
+use mathlib.Core.Path.{_≡_}
+use mathlib.Core.Bool.{true, false, not}
+use Prim.Native.Nat.{ℕ, _%_}
+use lib.Dec.{ltb, eqb}
+use Rattle.bounded.specs.Bounded.{within}
+use Rattle.checks.specs.Lengths.{badSet, badCubes, badList}
+
+module _ (depth n : ℕ) where
+  pub cubes-depth : within 1 256 depth ≡ false → badCubes depth n ≡ true
+  unfolding badCubes
+  cubes-depth w = rw w
+
+  pub cubes-slices : within 1 256 depth ≡ true → badSet n ≡ true → badCubes depth n ≡ true
+  unfolding badCubes
+  cubes-slices w b = rw (w, b)
+
+  pub cubes-rest : within 1 256 depth ≡ true → badSet n ≡ false → badCubes depth n ≡ not (eqb (n % depth) 0)
+  unfolding badCubes
+  cubes-rest w b = rw (w, b)
+
+module _ (n seeds : ℕ) where
+  pub list-slices : badSet n ≡ true → badList n seeds ≡ true
+  unfolding badList
+  list-slices b = rw b
+
+  pub list-seeds : badSet n ≡ false → badList n seeds ≡ ltb 2048 seeds
+  unfolding badList
+  list-seeds b = rw b

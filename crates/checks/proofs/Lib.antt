@@ -1,0 +1,3 @@
+-- The laws of lengths and of the order of causes.
+pub mod Lengths
+pub mod Order

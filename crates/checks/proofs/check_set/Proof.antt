@@ -1,0 +1,18 @@
+-- `checks::check_set` meets its contract. Assumes nothing.
+use Rattle.checks.specs.Calls.{setFaults}
+use borrow.Author.Needs.{needs}
+use Rattle.checks.proofs.check_set.Statement.{statement}
+use Rattle.checks.proofs.check_set.Tie as tie
+
+bad-set-requires : tie.Need-bad-set-requires
+bad-set-requires c κs = search needs
+
+check-stopped-requires : tie.Need-check-stopped-requires
+check-stopped-requires c κs = search needs
+
+returns : tie.Need-returns
+unfolding setFaults
+returns c = cc
+
+pub check-set-spec : {M : Type 1} → statement M
+check-set-spec = tie.close (tie.spec bad-set-requires check-stopped-requires returns)

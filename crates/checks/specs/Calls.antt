@@ -1,0 +1,59 @@
+-- Which of causes 1 to 5 hold for what each kind of call hands in. A call that lacks a part is not refused by its cause.
+--     stoppedFaults    slices with their stop slice, whose number is judged by the caller
+--     windowFaults     a window with its stop slice
+--     setFaults        a set with its stop slice
+--     cubesFaults      a set that comes as cubes, without a stop slice
+--     stopFaults       a set whose stop slice is asked for
+--     listFaults       a seed list
+use mathlib.Core.Bool.{Bool, false}
+use mathlib.Core.List.{List}
+use Prim.Native.Nat.{ℕ}
+use lib.ListN.{length}
+use Rattle.register.specs.Register.{badRegister}
+use Rattle.register.specs.Chains.{badCount, badChains}
+use Rattle.slices.specs.declared.TestSlice.{TestSlice}
+use Rattle.slices.specs.Slices.{badSlices, badStop}
+use Rattle.checks.specs.Lengths.{badWindow, badSet, badCubes, badList}
+use Rattle.checks.specs.declared.Faults.{Faults}
+
+unfoldable pub stoppedFaults : Bool → ℕ → ℕ → List ℕ → TestSlice → List ℕ → List ℕ → Faults
+stoppedFaults lengths cells taps masks stop specified bits = record {
+  register = badRegister cells taps;
+  chains = badChains cells masks;
+  lengths = lengths;
+  slices = badSlices (length masks) specified bits;
+  stop = badStop (length masks) stop;
+}
+
+unfoldable pub windowFaults : ℕ → ℕ → ℕ → List ℕ → TestSlice → List ℕ → List ℕ → Faults
+windowFaults limit cells taps masks stop specified bits = stoppedFaults (badWindow limit (length specified)) cells taps masks stop specified bits
+
+unfoldable pub setFaults : ℕ → ℕ → List ℕ → TestSlice → List ℕ → List ℕ → Faults
+setFaults cells taps masks stop specified bits = stoppedFaults (badSet (length specified)) cells taps masks stop specified bits
+
+unfoldable pub cubesFaults : ℕ → ℕ → List ℕ → ℕ → List ℕ → List ℕ → Faults
+cubesFaults cells taps masks depth specified bits = record {
+  register = badRegister cells taps;
+  chains = badChains cells masks;
+  lengths = badCubes depth (length specified);
+  slices = badSlices (length masks) specified bits;
+  stop = false;
+}
+
+unfoldable pub stopFaults : ℕ → List ℕ → List ℕ → Faults
+stopFaults chains specified bits = record {
+  register = false;
+  chains = badCount chains;
+  lengths = badSet (length specified);
+  slices = badSlices chains specified bits;
+  stop = false;
+}
+
+unfoldable pub listFaults : ℕ → ℕ → List ℕ → TestSlice → ℕ → ℕ → Faults
+listFaults cells taps masks stop slices seeds = record {
+  register = badRegister cells taps;
+  chains = badChains cells masks;
+  lengths = badList slices seeds;
+  slices = false;
+  stop = badStop (length masks) stop;
+}

@@ -1,0 +1,4 @@
+-- The laws of the register and its chains.
+pub mod Steps
+pub mod Slices
+pub mod Causes

@@ -1,0 +1,4 @@
+-- The laws of test slices.
+pub mod Agreeing
+pub mod Paired
+pub mod Causes

@@ -1,0 +1,2 @@
+-- Test slices and stop slices.
+pub mod Slices
