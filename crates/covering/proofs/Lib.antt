@@ -1,0 +1,5 @@
+-- The laws of covering and of the windows of a set.
+pub mod Tail
+pub mod Places
+pub mod Windows
+pub mod Zero

@@ -1,0 +1,5 @@
+-- Covering, the settings of a call, the windows of a set, and the seed of a single window.
+pub mod Covering
+pub mod Rules
+pub mod Windows
+pub mod Single

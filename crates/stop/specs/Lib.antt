@@ -1,0 +1,3 @@
+-- The stop slice of a set.
+pub mod Steps
+pub mod Entry

@@ -1,0 +1,66 @@
+-- The stop slice steps (document 01, "Stop slice steps", after document 004, III.A). Positions count from the left, from 0: position p has weight 2 ^ p.
+--     has p b t             the test slice t has the bit b at position p
+--     isSet p stop          position p of the stop slice is set
+--     count q xs            how many of the slices xs have the bit q % 2 at the position q / 2: the choice q
+--     choice stop counts n      of the choices below n at unset positions, the one with the greatest count; on a tie the lowest: the leftmost position, and there the 0s before the 1s
+--     settle q stop         the position of the choice is set to the complement of the counted bit
+--     keep q xs             the slices that have the counted bit or x there are removed
+--     steps d chains stop xs     the stop slice when at most d positions more are set and xs are the slices still in; none where slices stay in
+--     stopFor chains set    the stop slice of a set
+use mathlib.Core.Bool.{Bool, true, false, _&&_}
+use mathlib.Core.Option.{Option, none, some}
+use mathlib.Core.List.{List, [], _∷_}
+use Prim.Native.Nat.{ℕ, zero, suc, _+_, _-_, _*_, _/_, _%_, _^_}
+use lib.Dec.{ltb, eqb}
+use lib.ListN.{length}
+use Rattle.gf2.specs.Words.{digit}
+use Rattle.slices.specs.declared.TestSlice.{TestSlice}
+
+abbrev pub has : ℕ → ℕ → TestSlice → Bool
+has p b t = eqb (digit (t .specified) p) 1 && eqb (digit (t .bits) p) b
+
+abbrev pub isSet : ℕ → TestSlice → Bool
+isSet p stop = eqb (digit (stop .specified) p) 1
+
+-- the members of a list that pass a test, in order
+unfoldable pub filter : (TestSlice → Bool) → List TestSlice → List TestSlice
+filter p [] = []
+filter p (x ∷ xs) = elim (p x) [ true ↦ x ∷ filter p xs | false ↦ filter p xs ]
+
+unfoldable pub count : ℕ → List TestSlice → ℕ
+count q xs = length (filter (has (q / 2) (q % 2)) xs)
+
+-- q against the best of the lower choices: it must have a greater count
+unfoldable pub better : (ℕ → ℕ) → ℕ → Option ℕ → Option ℕ
+better counts q none = some q
+better counts q (some r) = elim (ltb (counts r) (counts q)) [ true ↦ some q | false ↦ some r ]
+
+-- Where the greatest count is 0 this is the leftmost unset position with the bit 0, so that it becomes 1 and all slices go out.
+unfoldable pub choice : TestSlice → (ℕ → ℕ) → ℕ → Option ℕ
+choice stop counts zero = none
+choice stop counts (suc q) = elim (isSet (q / 2) stop) [ true ↦ choice stop counts q | false ↦ better counts q (choice stop counts q) ]
+
+unfoldable pub settle : ℕ → TestSlice → TestSlice
+settle q stop = record { specified = stop .specified + 2 ^ (q / 2); bits = stop .bits + (1 - q % 2) * 2 ^ (q / 2) }
+
+unfoldable pub keep : ℕ → List TestSlice → List TestSlice
+keep q xs = filter (has (q / 2) (1 - q % 2)) xs
+
+abbrev pub isEmpty : List TestSlice → Bool
+isEmpty [] = true
+isEmpty (x ∷ xs) = false
+
+-- Repeat while slices are in. If slices are in and no position is unset, there is no stop slice.
+unfoldable pub steps : ℕ → ℕ → TestSlice → List TestSlice → Option TestSlice
+steps zero chains stop xs = elim (isEmpty xs) [ true ↦ some stop | false ↦ none ]
+steps (suc d) chains stop xs = elim (isEmpty xs) [
+  | true ↦ some stop
+  | false ↦ elim (choice stop (λ q. count q xs) (2 * chains)) [
+    | none ↦ none
+    | some q ↦ steps d chains (settle q stop) (keep q xs)
+  ]
+]
+
+-- All positions start as x and all test slices are in. Each step sets a position, so there are at most as many steps as chains.
+unfoldable pub stopFor : ℕ → List TestSlice → Option TestSlice
+stopFor chains set = steps chains chains (record { specified = 0; bits = 0 }) set
