@@ -1,0 +1,109 @@
+-- The whole call with the stop slice handed in means what it says.
+--     list-formed      the list of an encoded set is well-formed in expanding
+--     set-means        the outcome of the call
+-- Assumes nothing.
+use mathlib.Core.Path.{_≡_, refl, sym, _∙_}
+use mathlib.Core.List.{List, _++_}
+use Prim.Native.Nat.{ℕ, _≤_}
+use native.Mathlib.Omega.{arith}
+use lib.ListN.{length, take, drop}
+use lib.Seq.{take-at}
+use borrow.Author.Tests.{not-false, le-ltb}
+use Rattle.bounded.specs.Bounded.{within}
+use Rattle.bounded.proofs.Tests.{within-yes}
+use Rattle.causes.specs.declared.Cause.{Cause}
+use Rattle.causes.specs.Outcome.{refuse}
+use Rattle.register.specs.Machine.{Machine, machine}
+use Rattle.register.proofs.Steps.{step-below}
+use Rattle.slices.specs.declared.TestSlice.{TestSlice}
+use Rattle.slices.specs.Slices.{paired}
+use Rattle.slices.proofs.Paired.{paired-length}
+use Rattle.slices.proofs.Causes.{slices-equal}
+use Rattle.checks.specs.Lengths.{badSet}
+use Rattle.checks.specs.Order.{judged}
+use Rattle.checks.specs.Calls.{stoppedFaults, setFaults, listFaults}
+use Rattle.checks.specs.declared.Verdict.{Verdict}
+use Rattle.checks.specs.declared.Verdict.the-variants as verdict
+use Rattle.checks.proofs.Lengths.{list-seeds}
+use Rattle.checks.proofs.Order.{NoFault, well-formed, formed-well}
+use Rattle.cutting.proofs.Parts.{covering-length, cuts-count}
+use Rattle.covering.specs.Rules.{Rules, base}
+use Rattle.covering.specs.Windows.{CoveredBy, ok}
+use Rattle.covering.proofs.Windows.{base-steady, set-bounds}
+use Rattle.expander.specs.Expanding.{expanding, expandList}
+use Rattle.encoder.specs.Encoding.{encoding, encodeSet}
+use Rattle.encoder.specs.Meaning.{Delivers, Shortest, Listed, Meaning, SetMeaning}
+use Rattle.encoder.proofs.Seeds.{covering-cuts}
+use Rattle.encoder.proofs.Meaning.{encoding-means, list-delivers}
+
+module _ (cells taps : ℕ) (masks : List ℕ) (stop : TestSlice) (specified bits : List ℕ) where
+  abbrev M : Machine
+  M = machine cells taps masks 0
+
+  abbrev R : Rules
+  R = base stop
+
+  abbrev set : List TestSlice
+  set = paired specified bits
+
+  abbrev verdict-of : Verdict
+  verdict-of = judged (setFaults cells taps masks stop specified bits)
+
+  faultless : verdict-of ≡ verdict.WellFormed → NoFault (stoppedFaults (badSet (length specified)) cells taps masks stop specified bits)
+  unfolding setFaults
+  faultless w = formed-well (setFaults cells taps masks stop specified bits) w
+
+  set-length : verdict-of ≡ verdict.WellFormed → length set ≡ length specified
+  unfolding stoppedFaults
+  set-length w = paired-length specified bits (slices-equal (length masks) specified bits (faultless w .slices))
+
+  few-slices : verdict-of ≡ verdict.WellFormed → length specified ≤ 2048
+  unfolding stoppedFaults badSet
+  few-slices w = within-yes 1 2048 (length specified) (not-false (within 1 2048 (length specified)) (faultless w .lengths)) .1
+
+  few-seeds : verdict-of ≡ verdict.WellFormed → (seeds : List ℕ) → Shortest M R set seeds → length seeds ≤ 2048
+  few-seeds w seeds l =
+      omega (arith, cuts-count (ok M R set) (length set) (set-bounds M R set) (covering-cuts M R set (l .covers)), covering-length (CoveredBy M R set) (l .covers), set-length w, few-slices w)
+
+  pub list-formed : verdict-of ≡ verdict.WellFormed → (seeds : List ℕ) → Shortest M R set seeds
+      → judged (listFaults cells taps masks stop (length specified) (length seeds)) ≡ verdict.WellFormed
+  unfolding stoppedFaults listFaults
+  list-formed w seeds l = well-formed (listFaults cells taps masks stop (length specified) (length seeds)) (record {
+    register = faultless w .register;
+    chains = faultless w .chains;
+    lengths = list-seeds (length specified) (length seeds) (faultless w .lengths) ∙ le-ltb 2048 (length seeds) (few-seeds w seeds l);
+    slices = refl;
+    stop = faultless w .stop;
+  })
+
+  expands-back : verdict-of ≡ verdict.WellFormed → (seeds out : List ℕ) → Shortest M R set seeds
+      → expandList cells taps masks stop (length specified) seeds out ≡ expanding M R (length set) seeds out
+  unfolding expandList
+  expands-back w seeds out l = rw (list-formed w seeds l, expandList, set-length w)
+
+  list-back : verdict-of ≡ verdict.WellFormed → (seeds : List ℕ) → Shortest M R set seeds → Delivers set (expandList cells taps masks stop (length specified) seeds)
+  list-back w seeds l =
+      let d = list-delivers M R set refl (l .ends) seeds (l .covers) in
+      record { slices = d .slices; accepted = λ out. expands-back w seeds out l ∙ d .accepted out; whole = d .whole; agree = d .agree }
+
+  module _ (out : List ℕ) where
+    well : verdict-of ≡ verdict.WellFormed → encodeSet cells taps masks stop specified bits out ≡ encoding M R set out
+    unfolding encodeSet
+    well w = rw (w, encodeSet)
+
+    refusal : (c : Cause) → verdict-of ≡ verdict.Refused c → encodeSet cells taps masks stop specified bits out ≡ refuse c out
+    unfolding encodeSet
+    refusal c w = rw (w, encodeSet)
+
+    means : verdict-of ≡ verdict.WellFormed → Meaning M R set out (encodeSet cells taps masks stop specified bits out)
+    means w = rw (well w) (encoding-means M R set out (λ s h. step-below cells taps s) (base-steady stop (length set)))
+
+    front : (n : ℕ) (l : Listed M R set n) (buffer : List ℕ) → buffer ≡ l .seeds ++ drop n out → l .seeds ≡ take n buffer
+    front n l buffer e = rw e (sym (take-at (l .seeds) (drop n out) n (l .count)))
+
+    pub set-means : SetMeaning cells taps masks stop specified bits out (encodeSet cells taps masks stop specified bits out)
+    set-means = record {
+      refused = refusal;
+      meaning = means;
+      delivers = λ n w e. (let a = means w .accepted n e in rw (sym (front n (a .0) _ (a .1))) (list-back w (a .0 .seeds) (a .0 .shortest)));
+    }
