@@ -1,0 +1,18 @@
+-- `seeds::seeds_check_list` meets its contract. Assumes nothing.
+use borrow.Author.Needs.{needs}
+use mathlib.Core.Path.{ap, _∙_}
+use Rattle.seeds.specs.Face.{numberOf}
+use Rattle.seeds.proofs.seeds_check_list.Statement.{statement}
+use Rattle.seeds.proofs.seeds_check_list.Tie as tie
+
+check-list-requires : tie.Need-check-list-requires
+check-list-requires c κs = search needs
+
+number-requires : tie.Need-number-requires
+number-requires c κs = search needs
+
+returns : tie.Need-returns
+returns c = c .number .ensures ∙ ap numberOf (c .before .check-list .ensures)
+
+pub seeds-check-list-spec : {M : Type 1} → statement M
+seeds-check-list-spec = tie.close (tie.spec check-list-requires number-requires returns)

@@ -1,0 +1,18 @@
+-- `seeds::seeds_check_set` meets its contract. Assumes nothing.
+use borrow.Author.Needs.{needs}
+use mathlib.Core.Path.{ap, _∙_}
+use Rattle.seeds.specs.Face.{numberOf}
+use Rattle.seeds.proofs.seeds_check_set.Statement.{statement}
+use Rattle.seeds.proofs.seeds_check_set.Tie as tie
+
+check-set-requires : tie.Need-check-set-requires
+check-set-requires c κs = search needs
+
+number-requires : tie.Need-number-requires
+number-requires c κs = search needs
+
+returns : tie.Need-returns
+returns c = c .number .ensures ∙ ap numberOf (c .before .check-set .ensures)
+
+pub seeds-check-set-spec : {M : Type 1} → statement M
+seeds-check-set-spec = tie.close (tie.spec check-set-requires number-requires returns)

@@ -1,0 +1,18 @@
+-- `seeds::seeds_check_window` meets its contract. Assumes nothing.
+use borrow.Author.Needs.{needs}
+use mathlib.Core.Path.{ap, _∙_}
+use Rattle.seeds.specs.Face.{numberOf}
+use Rattle.seeds.proofs.seeds_check_window.Statement.{statement}
+use Rattle.seeds.proofs.seeds_check_window.Tie as tie
+
+check-window-requires : tie.Need-check-window-requires
+check-window-requires c κs = search needs
+
+number-requires : tie.Need-number-requires
+number-requires c κs = search needs
+
+returns : tie.Need-returns
+returns c = c .number .ensures ∙ ap numberOf (c .before .check-window .ensures)
+
+pub seeds-check-window-spec : {M : Type 1} → statement M
+seeds-check-window-spec = tie.close (tie.spec check-window-requires number-requires returns)
