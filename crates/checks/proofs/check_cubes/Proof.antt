@@ -21,7 +21,9 @@ judge-requires c κs = search needs
 
 returns : tie.Need-returns
 unfolding cubesFaults
-returns c = cc
+returns c =
+    rw (← (c .before .bad-slices .ensures), ← (c .before .before .bad-cubes .ensures), ← (c .before .before .before .bad-chains .ensures), ← (c .before .before .before .before .bad-register .ensures))
+    (c .judge .ensures)
 
 pub check-cubes-spec : {M : Type 1} → statement M
 check-cubes-spec =

@@ -12,7 +12,8 @@ check-stopped-requires c κs = search needs
 
 returns : tie.Need-returns
 unfolding setFaults
-returns c = cc
+returns c =
+    rw (← (c .before .bad-set .ensures)) (c .check-stopped .ensures)
 
 pub check-set-spec : {M : Type 1} → statement M
 check-set-spec = tie.close (tie.spec bad-set-requires check-stopped-requires returns)

@@ -18,7 +18,9 @@ judge-requires c κs = search needs
 
 returns : tie.Need-returns
 unfolding stopFaults
-returns c = cc
+returns c =
+    rw (← (c .before .bad-slices .ensures), ← (c .before .before .bad-set .ensures), ← (c .before .before .before .bad-count .ensures))
+    (c .judge .ensures)
 
 pub check-stop-spec : {M : Type 1} → statement M
 check-stop-spec =

@@ -21,7 +21,9 @@ judge-requires c κs = search needs
 
 returns : tie.Need-returns
 unfolding stoppedFaults
-returns c = cc
+returns c =
+    rw (← (c .before .bad-stop .ensures), ← (c .before .before .bad-slices .ensures), ← (c .before .before .before .bad-chains .ensures), ← (c .before .before .before .before .bad-register .ensures))
+    (c .judge .ensures)
 
 pub check-stopped-spec : {M : Type 1} → statement M
 check-stopped-spec =

@@ -12,7 +12,8 @@ check-stopped-requires c κs = search needs
 
 returns : tie.Need-returns
 unfolding windowFaults
-returns c = cc
+returns c =
+    rw (← (c .before .bad-window .ensures)) (c .check-stopped .ensures)
 
 pub check-window-spec : {M : Type 1} → statement M
 check-window-spec = tie.close (tie.spec bad-window-requires check-stopped-requires returns)
