@@ -1,0 +1,121 @@
+// Random calls: lawful ones, and the same with one or more parts damaged.
+
+use crate::library::Call;
+use crate::random::Random;
+
+fn lawful_taps(random: &mut Random, cells: usize) -> u64 {
+    random.bits(cells) | 1 << (cells - 1)
+}
+
+fn lawful_mask(random: &mut Random, cells: usize) -> u64 {
+    random.bits(cells).max(1)
+}
+
+fn lawful_slice(random: &mut Random, chains: usize, percent: u64) -> (u64, u64) {
+    let specified = random.sparse(chains, percent);
+    (specified, random.word() & specified)
+}
+
+/// A lawful call with at most `most_cells` cells, `most_chains` chains and `most_slices` slices.
+pub fn lawful(
+    random: &mut Random,
+    most_cells: usize,
+    most_chains: usize,
+    most_slices: usize,
+) -> Call {
+    let cells = random.from_to(1, most_cells);
+    let chains = random.from_to(1, most_chains);
+    let depth = random.from_to(1, 4).min(most_slices);
+    let count = depth * random.from_to(1, most_slices / depth);
+    let percent = [20, 40, 60, 90][random.from_to(0, 3)];
+    let taps = lawful_taps(random, cells);
+    let masks = (0..chains).map(|_| lawful_mask(random, cells)).collect();
+    let stop_specified = random.bits(chains).max(1);
+    let stop = (stop_specified, random.word() & stop_specified);
+    let pairs: Vec<(u64, u64)> = (0..count)
+        .map(|_| lawful_slice(random, chains, percent))
+        .collect();
+    let seeds = (0..random.from_to(0, 6))
+        .map(|_| random.bits(cells))
+        .collect();
+    Call {
+        cells,
+        taps,
+        masks,
+        stop,
+        depth,
+        specified: pairs.iter().map(|p| p.0).collect(),
+        bits: pairs.iter().map(|p| p.1).collect(),
+        slices: count,
+        seeds,
+    }
+}
+
+/// Damages one part of a call.
+pub fn damage(random: &mut Random, call: &mut Call) {
+    let chains = call.masks.len();
+    let place = |random: &mut Random, n: usize| {
+        if n == 0 {
+            0
+        } else {
+            random.below(n as u64) as usize
+        }
+    };
+    match random.below(18) {
+        0 => call.cells = [0, 65, 66, 1 << 40, usize::MAX][random.from_to(0, 4)],
+        1 => call.taps = random.word(),
+        2 => {
+            call.taps &= !(1u64
+                .checked_shl(call.cells.wrapping_sub(1) as u32)
+                .unwrap_or(0))
+        }
+        3 => call.masks.clear(),
+        4 => call.masks.resize(65, 1),
+        5 => {
+            if chains > 0 {
+                let at = place(random, chains);
+                call.masks[at] = 0;
+            }
+        }
+        6 => {
+            if chains > 0 {
+                let at = place(random, chains);
+                call.masks[at] = random.word() | 1 << 63;
+            }
+        }
+        7 => call.depth = [0, 257, 256, 7, usize::MAX][random.from_to(0, 4)],
+        8 => {
+            call.specified.clear();
+            call.bits.clear();
+        }
+        9 => {
+            let count = [256, 257, 2048, 2049][random.from_to(0, 3)];
+            call.specified.resize(count, 0);
+            call.bits.resize(count, 0);
+        }
+        10 => {
+            call.specified.pop();
+        }
+        11 => {
+            call.bits.pop();
+        }
+        12 => {
+            let count = call.bits.len();
+            if count > 0 {
+                let at = place(random, count);
+                call.bits[at] = random.bits(chains);
+            }
+        }
+        13 => {
+            let count = call.specified.len();
+            if count > 0 {
+                let at = place(random, count);
+                call.specified[at] = random.word();
+            }
+        }
+        14 => call.stop = (0, 0),
+        15 => call.stop = (random.word(), random.bits(chains)),
+        16 => call.slices = [0, 2048, 2049, usize::MAX][random.from_to(0, 3)],
+        _ => call.seeds = vec![1; [0, 2047, 2048, 2049][random.from_to(0, 3)]],
+    }
+}

@@ -1,0 +1,176 @@
+// The proved leaves against the second program: step, slice, agreeing, showing, and the checks behind causes 1 to 5.
+
+use crate::inputs::{damage, lawful};
+use crate::library::{self, Call};
+use crate::random::Random;
+use crate::report::{same, Outcome};
+
+/// Steps of lawful registers of 1 to 64 cells from random states.
+pub fn steps() -> Outcome {
+    let mut random = Random(1);
+    let mut count = 0;
+    for round in 0..20_000 {
+        let cells = 1 + round % 64;
+        let taps = random.bits(cells) | 1 << (cells - 1);
+        let mut state = random.bits(cells);
+        for _ in 0..10 {
+            let next = library::step(cells, taps, state);
+            same(
+                &format!("step of {cells} cells, taps {taps:x}, state {state:x}"),
+                next,
+                second::step(cells as u64, taps, state),
+            )?;
+            state = next;
+            count += 1;
+        }
+    }
+    Ok(count)
+}
+
+/// Slices of random states under 1 to 64 masks.
+pub fn slices() -> Outcome {
+    let mut random = Random(2);
+    let mut count = 0;
+    for round in 0..50_000 {
+        let chains = 1 + round % 64;
+        let masks: Vec<u64> = (0..chains).map(|_| random.word()).collect();
+        let state = random.word();
+        same(
+            &format!("slice of {state:x} under {masks:x?}"),
+            library::slice(&masks, state),
+            second::slice(&masks, state),
+        )?;
+        count += 1;
+    }
+    Ok(count)
+}
+
+/// Agreeing and showing, on numbers that often agree.
+pub fn agreeing() -> Outcome {
+    let mut random = Random(3);
+    let mut count = 0;
+    for _ in 0..50_000 {
+        let width = random.from_to(1, 64);
+        let specified = random.sparse(width, 10);
+        let slice = random.bits(width);
+        let bits = if random.one_in(2) {
+            slice & specified
+        } else {
+            random.word() & specified
+        };
+        same(
+            "agrees",
+            library::agrees(specified, bits, slice),
+            second::agrees(specified, bits, slice),
+        )?;
+        same(
+            "shows",
+            library::shows((specified, bits), slice),
+            second::shows(specified, bits, slice),
+        )?;
+        count += 2;
+    }
+    Ok(count)
+}
+
+/// The number of a refusal by one of causes 1 to 5, or 0.
+fn number<T>(answer: Result<T, second::Refused>) -> usize {
+    match answer {
+        Err(refused) if refused.number <= 5 => refused.number as usize,
+        _ => 0,
+    }
+}
+
+fn compare(call: &Call) -> Result<usize, String> {
+    let Call {
+        cells,
+        taps,
+        masks,
+        stop,
+        depth,
+        specified,
+        bits,
+        slices,
+        seeds,
+    } = call;
+    let cells = *cells as u64;
+    let window = second::window_seed(cells, *taps, masks, stop.0, stop.1, specified, bits);
+    same(
+        &format!("check of the window {call:x?}"),
+        call.check_window(),
+        number(window),
+    )?;
+    let set = second::encode_set(
+        cells,
+        *taps,
+        masks,
+        stop.0,
+        stop.1,
+        specified,
+        bits,
+        &mut [],
+    );
+    same(
+        &format!("check of the set {call:x?}"),
+        call.check_set(),
+        number(set),
+    )?;
+    let cubes = second::encode_cubes(cells, *taps, masks, *depth as u64, specified, bits, &mut []);
+    same(
+        &format!("check of the cubes {call:x?}"),
+        call.check_cubes(),
+        number(cubes),
+    )?;
+    let formed = second::stop_slice(masks.len() as u64, specified, bits);
+    same(
+        &format!("check for a stop slice {call:x?}"),
+        call.check_stop(masks.len()),
+        number(formed),
+    )?;
+    let list = second::expand(
+        cells,
+        *taps,
+        masks,
+        stop.0,
+        stop.1,
+        *slices as u64,
+        seeds,
+        &mut [],
+    );
+    same(
+        &format!("check of the list {call:x?}"),
+        call.check_list(),
+        number(list),
+    )?;
+    Ok(5)
+}
+
+/// The checks on small lawful calls, and on calls with one to three damaged parts.
+pub fn checks() -> Outcome {
+    let mut random = Random(4);
+    let mut count = 0;
+    for round in 0..8_000 {
+        let mut call = lawful(&mut random, 8, 5, 8);
+        for _ in 0..round % 4 {
+            damage(&mut random, &mut call);
+        }
+        count += compare(&call)?;
+    }
+    Ok(count)
+}
+
+/// The checks of damaged calls for wide registers and many chains.
+pub fn wide_checks() -> Outcome {
+    let mut random = Random(5);
+    let mut count = 0;
+    while count < 20_000 {
+        let mut call = lawful(&mut random, 64, 64, 40);
+        damage(&mut random, &mut call);
+        damage(&mut random, &mut call);
+        // a well-formed window or set of a wide register would be searched
+        if call.check_window() != 0 && call.check_set() != 0 && call.check_cubes() != 0 {
+            count += compare(&call)?;
+        }
+    }
+    Ok(count)
+}

@@ -1,0 +1,58 @@
+// The test program: the proved library's leaves, document 01's bench examples and document 004's figure 2, against the second program.
+// Prints a line for each case and ends with `N passed, M failed`.
+
+mod bench;
+mod figure;
+mod inputs;
+mod leaves;
+mod library;
+mod random;
+mod report;
+mod small;
+
+use report::Report;
+use std::io::Write;
+use std::process::{Command, ExitCode, Stdio};
+
+/// Runs the second program, which is built beside this one, with a standard input.
+fn second_program(word: &str, input: &str) -> Result<String, String> {
+    let here = std::env::current_exe().map_err(|e| e.to_string())?;
+    let path = here.with_file_name("second");
+    let mut child = Command::new(path)
+        .arg(word)
+        .stdin(Stdio::piped())
+        .stdout(Stdio::piped())
+        .spawn()
+        .map_err(|e| format!("the second program does not start: {e}"))?;
+    let mut pipe = child.stdin.take().ok_or("no standard input")?;
+    pipe.write_all(input.as_bytes())
+        .map_err(|e| e.to_string())?;
+    drop(pipe);
+    let done = child.wait_with_output().map_err(|e| e.to_string())?;
+    String::from_utf8(done.stdout).map_err(|e| e.to_string())
+}
+
+fn main() -> ExitCode {
+    let mut report = Report::new();
+    report.case("bench examples, starred", bench::starred());
+    report.case(
+        "bench examples, the sheet and its list",
+        bench::sheet(second_program),
+    );
+    report.case("bench examples, limits", bench::limits());
+    report.case("figure 2, counted", figure::counts());
+    report.case("figure 2, printed", figure::printed(second_program));
+    report.case("small sets against brute force", small::sets());
+    report.case("small windows against brute force", small::windows());
+    report.case("small sets encoded and expanded", small::round_trips());
+    report.case("library: step", leaves::steps());
+    report.case("library: slice", leaves::slices());
+    report.case("library: agreeing and showing", leaves::agreeing());
+    report.case("library: checks of small calls", leaves::checks());
+    report.case("library: checks of wide calls", leaves::wide_checks());
+    if report.end() {
+        ExitCode::SUCCESS
+    } else {
+        ExitCode::FAILURE
+    }
+}

@@ -1,0 +1,76 @@
+// Holds the expanding of a seed list to slices.
+// Follows document 01, "Covering and cutting" and "Refusal sheet".
+
+use crate::check::{check_chains, check_register, check_slice_count, check_stop};
+use crate::register::{low_bits, shows, slice, step};
+use crate::{refuse, Refused, LONGEST_WINDOW, MOST_SLICES};
+
+/// The slices of a seed before its first stop. Causes 10, 11, 12 with the seed's place.
+fn run(
+    cells: u64,
+    taps: u64,
+    masks: &[u64],
+    stop: (u64, u64),
+    seed: u64,
+    place: usize,
+) -> Result<Vec<u64>, Refused> {
+    if seed & !low_bits(cells) != 0 {
+        return refuse(10, place as u64);
+    }
+    let mut slices = Vec::new();
+    let mut state = seed;
+    for t in 0..=LONGEST_WINDOW {
+        let here = slice(masks, state);
+        if shows(stop.0, stop.1, here) {
+            if t == 0 {
+                return refuse(11, place as u64);
+            }
+            return Ok(slices);
+        }
+        slices.push(here);
+        state = step(cells, taps, state);
+    }
+    refuse(12, place as u64)
+}
+
+/// Expands the seeds to `total` slices, which stand first in `out`; returns their number.
+/// Causes 1, 2, 3, 5; then the seeds by 10, 11, 12; then 14, 9. On refusal `out` is as
+/// it was.
+#[allow(clippy::too_many_arguments)]
+pub fn expand(
+    cells: u64,
+    taps: u64,
+    masks: &[u64],
+    stop_spec: u64,
+    stop_bits: u64,
+    total: u64,
+    seeds: &[u64],
+    out: &mut [u64],
+) -> Result<usize, Refused> {
+    check_register(cells, taps)?;
+    check_chains(cells, masks)?;
+    check_slice_count(total)?;
+    if seeds.len() > MOST_SLICES {
+        return refuse(3, 0);
+    }
+    check_stop(masks.len() as u64, stop_spec, stop_bits)?;
+    let mut slices = Vec::new();
+    for (place, &seed) in seeds.iter().enumerate() {
+        slices.extend(run(
+            cells,
+            taps,
+            masks,
+            (stop_spec, stop_bits),
+            seed,
+            place,
+        )?);
+    }
+    if slices.len() as u64 != total {
+        return refuse(14, slices.len() as u64);
+    }
+    let Some(front) = out.get_mut(..slices.len()) else {
+        return refuse(9, slices.len() as u64);
+    };
+    front.copy_from_slice(&slices);
+    Ok(slices.len())
+}

@@ -1,0 +1,52 @@
+// Holds the list of modules, the type of a refusal and the limits.
+// Follows document 01, "Refusal sheet".
+
+//! Self-stopping seeds for scan slices: a second program, made from document
+//! 004 (section III.A, figure 2) and document 01 alone.
+
+mod brute;
+mod brute_sheet;
+mod check;
+mod encode;
+mod expand;
+mod lines;
+mod list;
+mod plane;
+mod register;
+mod search;
+mod sheet;
+mod stop;
+mod window;
+
+pub use brute::{brute_set, brute_window, covers, BruteSet, MOST_BRUTE_CELLS};
+pub use brute_sheet::{brute_text, BruteText};
+pub use check::{check_chains, check_register, check_slices, check_stop};
+pub use encode::{encode_cubes, encode_set};
+pub use expand::expand;
+pub use lines::{refusal_text, slice_of, slice_text};
+pub use list::expand_text;
+pub use register::{agrees, shows, slice, step};
+pub use sheet::encode_text;
+pub use stop::{stop_slice, stop_trace, Iteration, StopTrace};
+pub use window::window_seed;
+
+/// Most cells of a register.
+pub const MOST_CELLS: u64 = 64;
+/// Most chains.
+pub const MOST_CHAINS: u64 = 64;
+/// Most slices of a window, and the greatest depth.
+pub const LONGEST_WINDOW: usize = 256;
+/// Most slices of a set, and most seeds of a list.
+pub const MOST_SLICES: usize = 2048;
+
+/// A refusal: its number on the refusal sheet and the value returned beside it.
+#[derive(Clone, Copy, Debug, PartialEq, Eq)]
+pub struct Refused {
+    pub number: u64,
+    pub value: u64,
+}
+
+/// The refusal `number` with `value`, as an error.
+pub(crate) fn refuse<T>(number: u64, value: u64) -> Result<T, Refused> {
+    Err(Refused { number, value })
+}

@@ -1,0 +1,121 @@
+// Holds the seed of a window and the longest covered window at a place of a set.
+// Follows document 01, "Covering and cutting".
+
+use crate::check::{check_chains, check_register, check_slices, check_stop, check_window_length};
+use crate::plane::Plane;
+use crate::search::Search;
+use crate::{refuse, Refused, LONGEST_WINDOW};
+
+/// A register with its chains and a stop slice, in a form made for the search.
+pub struct Machine {
+    cells: u64,
+    /// `rows[t][j]`: the cells of a seed whose sum is the bit of chain j+1 in slice t.
+    rows: Vec<Vec<u64>>,
+    /// `shown[t]`: slice t shows the stop exactly when, for each of these pairs, the
+    /// cells of the seed in the row sum to the bit.
+    shown: Vec<Vec<(u64, u64)>>,
+}
+
+/// The specified places of a slice and its bits there.
+fn specified(spec: u64, bits: u64) -> Vec<(usize, u64)> {
+    let mut places = Vec::new();
+    for place in 0..64 {
+        if (spec >> place) & 1 == 1 {
+            places.push((place, (bits >> place) & 1));
+        }
+    }
+    places
+}
+
+/// The cells before a step whose sum is the sum of the cells in `row` after it.
+fn row_before_step(taps: u64, row: u64) -> u64 {
+    let fed_back = if row & 1 == 1 { taps } else { 0 };
+    (row >> 1) ^ fed_back
+}
+
+impl Machine {
+    /// For a register, chains and a stop slice that have passed causes 1, 2 and 5.
+    pub fn new(cells: u64, taps: u64, masks: &[u64], stop_spec: u64, stop_bits: u64) -> Machine {
+        let mut rows = vec![masks.to_vec()];
+        for t in 0..LONGEST_WINDOW {
+            let next = rows[t]
+                .iter()
+                .map(|&row| row_before_step(taps, row))
+                .collect();
+            rows.push(next);
+        }
+        let stop = specified(stop_spec, stop_bits);
+        let shown_by = |row: &Vec<u64>| stop.iter().map(|&(j, bit)| (row[j], bit)).collect();
+        let shown = rows.iter().map(shown_by).collect();
+        Machine { cells, rows, shown }
+    }
+
+    /// Planes for the lengths from 0 on: the plane at m holds all states whose slices 0
+    /// to m-1 agree with the first m slices. Ends before the first length that has none.
+    fn agreeing(&self, spec: &[u64], bits: &[u64]) -> Vec<Plane> {
+        let mut planes = vec![Plane::all(self.cells)];
+        for (t, (&places, &values)) in spec.iter().zip(bits).take(LONGEST_WINDOW).enumerate() {
+            let mut plane = planes[t].clone();
+            for (place, bit) in specified(places, values) {
+                if !plane.keep_row(self.rows[t][place], bit) {
+                    return planes;
+                }
+            }
+            planes.push(plane);
+        }
+        planes
+    }
+
+    /// The lowest state of the plane whose slices 0 to m-1 don't show the stop and whose
+    /// slice m does.
+    fn stopping_at(&self, mut plane: Plane, m: usize) -> Option<u64> {
+        for &(row, bit) in &self.shown[m] {
+            if !plane.keep_row(row, bit) {
+                return None;
+            }
+        }
+        Search::new(plane, &self.shown[..m])?.lowest()
+    }
+
+    /// The lowest state that covers the window, of 1 to 256 slices.
+    pub fn seed(&self, spec: &[u64], bits: &[u64]) -> Option<u64> {
+        let mut planes = self.agreeing(spec, bits);
+        if planes.len() <= spec.len() {
+            return None;
+        }
+        self.stopping_at(planes.pop()?, spec.len())
+    }
+
+    /// The longest covered window that the slices begin with, and its seed. A length that
+    /// isn't covered says nothing of a longer one, so all are tried, the longest first.
+    pub fn longest(&self, spec: &[u64], bits: &[u64]) -> Option<(usize, u64)> {
+        let planes = self.agreeing(spec, bits);
+        for (m, plane) in planes.into_iter().enumerate().skip(1).rev() {
+            if let Some(seed) = self.stopping_at(plane, m) {
+                return Some((m, seed));
+            }
+        }
+        None
+    }
+}
+
+/// The seed of a window: the lowest covering state. Causes 1, 2, 3, 4, 5, 7.
+pub fn window_seed(
+    cells: u64,
+    taps: u64,
+    masks: &[u64],
+    stop_spec: u64,
+    stop_bits: u64,
+    spec: &[u64],
+    bits: &[u64],
+) -> Result<u64, Refused> {
+    check_register(cells, taps)?;
+    check_chains(cells, masks)?;
+    check_window_length(spec.len())?;
+    check_slices(masks.len() as u64, spec, bits)?;
+    check_stop(masks.len() as u64, stop_spec, stop_bits)?;
+    match Machine::new(cells, taps, masks, stop_spec, stop_bits).seed(spec, bits) {
+        Some(seed) => Ok(seed),
+        None => refuse(7, 0),
+    }
+}

@@ -1,0 +1,310 @@
+// Holds the bench examples as tests of the library calls.
+// Follows document 01, "Bench examples".
+
+mod common;
+
+use common::{one, refused, set};
+use second::*;
+
+const MASKS: [u64; 2] = [1, 4];
+
+/// A window of register R with the stop 01.
+fn window(texts: &[&str]) -> Result<u64, Refused> {
+    let (spec, bits) = set(texts);
+    let (stop_spec, stop_bits) = one("01");
+    let exact = window_seed(3, 6, &MASKS, stop_spec, stop_bits, &spec, &bits);
+    let brute = brute_window(3, 6, &MASKS, stop_spec, stop_bits, &spec, &bits);
+    assert_eq!(Some(exact), brute);
+    exact
+}
+
+fn stop_of(texts: &[&str]) -> Result<(u64, u64), Refused> {
+    let (spec, bits) = set(texts);
+    stop_slice(texts[0].len() as u64, &spec, &bits)
+}
+
+#[test]
+fn register_r_steps() {
+    let mut state = 1;
+    for next in [2, 5, 3, 7, 6, 4, 1] {
+        state = step(3, 6, state);
+        assert_eq!(state, next);
+    }
+}
+
+#[test]
+fn figure_2() {
+    let (spec, bits) = set(&[
+        "x001x10x11",
+        "10xx0010xx",
+        "xx10xx01x1",
+        "x1xxxx110x",
+        "01x11xx110",
+        "x0xxxxxxxx",
+    ]);
+    let trace = stop_trace(10, &spec, &bits).unwrap();
+    let first = Iteration {
+        zeros: vec![1, 3, 1, 1, 1, 1, 2, 1, 1, 1],
+        ones: vec![1, 2, 1, 2, 1, 1, 2, 3, 2, 2],
+        position: 2,
+        bit: 1,
+        removed: vec![0, 1, 2, 5],
+    };
+    let second = Iteration {
+        zeros: vec![1, 0, 0, 0, 0, 0, 0, 0, 1, 1],
+        ones: vec![0, 2, 0, 1, 1, 0, 1, 2, 1, 0],
+        position: 8,
+        bit: 0,
+        removed: vec![3, 4],
+    };
+    assert_eq!(trace.iterations, [first, second]);
+    assert!(trace.left.is_empty());
+    assert_eq!(stop_slice(10, &spec, &bits), Ok(one("x1xxxxx0xx")));
+}
+
+#[test]
+fn stop_steps_that_end_with_slices_in() {
+    assert_eq!(stop_of(&["0", "1"]), refused(6, 0));
+    assert_eq!(
+        stop_of(&["1x", "1x", "1x", "10", "00", "01"]),
+        refused(6, 0)
+    );
+}
+
+#[test]
+fn stop_of_unspecified_slices() {
+    assert_eq!(stop_of(&["xxx", "xxx"]), Ok(one("1xx")));
+    // The first position is set by a count; then every count at an unset one is 0.
+    assert_eq!(stop_of(&["0xx", "0xx", "1xx"]), Ok(one("11x")));
+}
+
+#[test]
+fn windows_of_r() {
+    assert_eq!(window(&["10", "x1"]), Ok(3));
+    assert_eq!(window(&["10"]), refused(7, 0));
+    assert_eq!(window(&["xx", "xx"]), Ok(3));
+    assert_eq!(window(&["11", "xx"]), refused(7, 0));
+}
+
+#[test]
+fn state_7_shows_the_stop_early() {
+    let (stop_spec, stop_bits) = one("01");
+    let mut state = 7;
+    let mut shown = Vec::new();
+    for _ in 0..3 {
+        shown.push(shows(stop_spec, stop_bits, slice(&MASKS, state)));
+        state = step(3, 6, state);
+    }
+    assert_eq!(shown, [false, true, true]);
+}
+
+#[test]
+fn set_of_r_that_cannot_be_cut() {
+    let (spec, bits) = set(&["1x", "0x"]);
+    let (stop_spec, stop_bits) = one("01");
+    for space in 0..3 {
+        let mut out = vec![9; space];
+        let answer = encode_set(3, 6, &MASKS, stop_spec, stop_bits, &spec, &bits, &mut out);
+        assert_eq!(answer, refused(8, 1));
+        assert_eq!(out, vec![9; space]);
+    }
+    let brute = brute_set(3, 6, &MASKS, stop_spec, stop_bits, &spec, &bits);
+    let found = brute.unwrap().unwrap();
+    assert_eq!(
+        (found.fewest, found.longest_start, found.reached),
+        (None, 1, 1)
+    );
+}
+
+#[test]
+fn seeds_of_r_refused() {
+    let (stop_spec, stop_bits) = one("01");
+    let mut out = [9; 4];
+    for (seeds, number, value) in [
+        (&[6][..], 11, 0),
+        (&[0], 12, 0),
+        (&[3, 6], 11, 1),
+        (&[3, 3, 0, 6, 8], 12, 2),
+        (&[3, 8, 0], 10, 1),
+        (&[], 14, 0),
+        (&[3], 14, 2),
+        (&[3, 3, 3], 14, 6),
+    ] {
+        let answer = expand(3, 6, &MASKS, stop_spec, stop_bits, 4, seeds, &mut out);
+        assert_eq!(answer, refused(number, value), "{seeds:?}");
+        assert_eq!(out, [9; 4]);
+    }
+}
+
+#[test]
+fn the_sheet_as_calls() {
+    let (spec, bits) = set(&["10", "x1", "1x", "1x"]);
+    let (stop_spec, stop_bits) = one("0x");
+    let mut out = [9; 4];
+    let answer = encode_cubes(3, 6, &MASKS, 2, &spec, &bits, &mut out);
+    assert_eq!(answer, Ok((stop_spec, stop_bits, 2)));
+    assert_eq!(out, [3, 3, 9, 9]);
+    let mut slices = [9; 5];
+    let answer = expand(
+        3,
+        6,
+        &MASKS,
+        stop_spec,
+        stop_bits,
+        4,
+        &out[..2],
+        &mut slices,
+    );
+    assert_eq!(answer, Ok(4));
+    assert_eq!(slices, [1, 3, 1, 3, 9]);
+}
+
+#[test]
+fn a_buffer_one_entry_short() {
+    let (spec, bits) = set(&["10", "x1", "1x", "1x"]);
+    let (stop_spec, stop_bits) = one("0x");
+    let mut out = [9];
+    let answer = encode_cubes(3, 6, &MASKS, 2, &spec, &bits, &mut out);
+    assert_eq!(answer, refused(9, 2));
+    let answer = encode_set(3, 6, &MASKS, stop_spec, stop_bits, &spec, &bits, &mut out);
+    assert_eq!(answer, refused(9, 2));
+    assert_eq!(out, [9]);
+    let mut slices = [9; 3];
+    let answer = expand(3, 6, &MASKS, stop_spec, stop_bits, 4, &[3, 3], &mut slices);
+    assert_eq!(answer, refused(9, 4));
+    assert_eq!(slices, [9; 3]);
+}
+
+/// 12 cells of period 4,095, one chain for each cell.
+const TAPS_12: u64 = 0b1110_0000_1000;
+
+fn masks_12() -> Vec<u64> {
+    (0..12).map(|cell| 1 << cell).collect()
+}
+
+#[test]
+fn windows_of_256_and_257_slices() {
+    let (masks, stop) = (masks_12(), 0xfff);
+    let free = vec![0; 300];
+    let mut before = 0;
+    for state in 1..4096 {
+        let mut now = state;
+        let mut seen = Vec::new();
+        for _ in 0..=256 {
+            seen.push(now);
+            now = step(12, TAPS_12, now);
+        }
+        if seen.iter().position(|&state| state == stop) == Some(256) {
+            before = state;
+        }
+    }
+    assert_ne!(before, 0);
+    let exact = |count: usize| {
+        window_seed(
+            12,
+            TAPS_12,
+            &masks,
+            stop,
+            stop,
+            &free[..count],
+            &free[..count],
+        )
+    };
+    assert_eq!(exact(0), refused(3, 0));
+    assert_eq!(exact(256), Ok(before));
+    assert_eq!(exact(257), refused(3, 0));
+    let mut out = [9; 3];
+    let answer = encode_set(
+        12,
+        TAPS_12,
+        &masks,
+        stop,
+        stop,
+        &free[..257],
+        &free[..257],
+        &mut out,
+    );
+    assert_eq!(answer, Ok(2));
+    assert_eq!(out[0], before);
+    assert_eq!(step(12, TAPS_12, out[1]), stop);
+    assert_eq!(out[2], 9);
+    // Slice 256 may show the stop in expanding, slice 257 is too late.
+    let mut slices = [9; 256];
+    let answer = expand(12, TAPS_12, &masks, stop, stop, 256, &[before], &mut slices);
+    assert_eq!(answer, Ok(256));
+    let earlier = (0..4096)
+        .find(|&state| step(12, TAPS_12, state) == before)
+        .unwrap();
+    let answer = expand(
+        12,
+        TAPS_12,
+        &masks,
+        stop,
+        stop,
+        256,
+        &[earlier],
+        &mut slices,
+    );
+    assert_eq!(answer, refused(12, 0));
+}
+
+#[test]
+fn sets_of_2048_and_2049_slices() {
+    let (masks, stop) = (masks_12(), 0xfff);
+    let free = vec![0; 2049];
+    let mut out = vec![9; 2049];
+    let mut encode = |count: usize| {
+        let free = &free[..count];
+        encode_set(12, TAPS_12, &masks, stop, stop, free, free, &mut out)
+    };
+    assert_eq!(encode(2048), Ok(8));
+    assert_eq!(encode(2049), refused(3, 0));
+    assert_eq!(encode(0), refused(3, 0));
+    assert_eq!(stop_slice(12, &free, &free), refused(3, 0));
+    assert_eq!(stop_slice(12, &free[..2048], &free[..2048]), Ok((1, 1)));
+    let seeds = vec![0; 2049];
+    let answer = expand(12, TAPS_12, &masks, stop, stop, 1, &seeds, &mut out);
+    assert_eq!(answer, refused(3, 0));
+    let answer = expand(12, TAPS_12, &masks, stop, stop, 2049, &seeds[..1], &mut out);
+    assert_eq!(answer, refused(3, 0));
+    let answer = expand(12, TAPS_12, &masks, stop, stop, 1, &seeds[..2048], &mut out);
+    assert_eq!(answer, refused(12, 0));
+}
+
+#[test]
+fn taps_in_cell_63_only() {
+    let last = 1u64 << 63;
+    assert_eq!(check_register(64, last), Ok(()));
+    assert_eq!(step(64, last, last), 1);
+    assert_eq!(step(64, last, u64::MAX), u64::MAX);
+    // Slice t is cell 63-t of the seed for t below 64, then the same again.
+    for m in 1..=256u64 {
+        let free = vec![0; m as usize];
+        let answer = window_seed(64, last, &[last], 1, 1, &free, &free);
+        let wanted = if m < 64 { Ok(last >> m) } else { refused(7, 0) };
+        assert_eq!(answer, wanted, "{m}");
+    }
+    let mut out = [9; 5];
+    let free = [0; 200];
+    let answer = encode_set(64, last, &[last], 1, 1, &free, &free, &mut out);
+    assert_eq!(answer, Ok(4));
+    assert_eq!(out, [1, 1, 1, 1 << 52, 9]);
+}
+
+#[test]
+fn equal_masks_are_lawful() {
+    let masks = [4, 4];
+    assert_eq!(check_chains(3, &masks), Ok(()));
+    let (spec, bits) = set(&["0x", "x0"]);
+    let (same_spec, same_bits) = one("11");
+    assert_eq!(
+        window_seed(3, 6, &masks, same_spec, same_bits, &spec, &bits),
+        Ok(1)
+    );
+    let (other_spec, other_bits) = one("01");
+    let answer = window_seed(3, 6, &masks, other_spec, other_bits, &spec, &bits);
+    assert_eq!(answer, refused(7, 0));
+    let (spec, bits) = set(&["0x", "x1"]);
+    let answer = window_seed(3, 6, &masks, same_spec, same_bits, &spec, &bits);
+    assert_eq!(answer, refused(7, 0));
+}
