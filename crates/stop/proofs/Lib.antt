@@ -1,0 +1,2 @@
+-- The laws of the stop slice steps.
+pub mod Choice
