@@ -1,21 +1,26 @@
 -- The refusal sheet (document 01, "Refusal sheet"): the number of each cause, and what is returned beside it.
---     refusalOf cause     its number and value
+--     lineOf number value     a line of the sheet
+--     refusalOf cause         the line of a cause
+use Prim.Native.Nat.{ℕ}
 use Rattle.causes.specs.declared.Cause.{Cause}
 use Rattle.causes.specs.declared.Cause.the-variants.{Register, Chains, Lengths, TestSlice, StopSlice, SlicesIn, NoSeed, NoCutting, NoSpace, SeedBeyond, SeedAtStop, SeedEndless, Line, Total}
 use Rattle.causes.specs.declared.Refusal.{Refusal}
 
+abbrev pub lineOf : ℕ → ℕ → Refusal
+lineOf number value = record { number = number; value = value }
+
 abbrev pub refusalOf : Cause → Refusal
-refusalOf Register = record { number = 1; value = 0 }
-refusalOf Chains = record { number = 2; value = 0 }
-refusalOf Lengths = record { number = 3; value = 0 }
-refusalOf TestSlice = record { number = 4; value = 0 }
-refusalOf StopSlice = record { number = 5; value = 0 }
-refusalOf SlicesIn = record { number = 6; value = 0 }
-refusalOf NoSeed = record { number = 7; value = 0 }
-refusalOf (NoCutting slices) = record { number = 8; value = slices }
-refusalOf (NoSpace entries) = record { number = 9; value = entries }
-refusalOf (SeedBeyond place) = record { number = 10; value = place }
-refusalOf (SeedAtStop place) = record { number = 11; value = place }
-refusalOf (SeedEndless place) = record { number = 12; value = place }
-refusalOf (Line line) = record { number = 13; value = line }
-refusalOf (Total found) = record { number = 14; value = found }
+refusalOf Register = lineOf 1 0
+refusalOf Chains = lineOf 2 0
+refusalOf Lengths = lineOf 3 0
+refusalOf TestSlice = lineOf 4 0
+refusalOf StopSlice = lineOf 5 0
+refusalOf SlicesIn = lineOf 6 0
+refusalOf NoSeed = lineOf 7 0
+refusalOf (NoCutting slices) = lineOf 8 slices
+refusalOf (NoSpace entries) = lineOf 9 entries
+refusalOf (SeedBeyond place) = lineOf 10 place
+refusalOf (SeedAtStop place) = lineOf 11 place
+refusalOf (SeedEndless place) = lineOf 12 place
+refusalOf (Line line) = lineOf 13 line
+refusalOf (Total found) = lineOf 14 found

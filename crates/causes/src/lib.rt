@@ -1,6 +1,6 @@
 // The causes of refusal, with what each carries, and the number and value of document 01's refusal sheet.
 ghost use mathlib.Core.Path.{_≡_};
-ghost use Rattle.causes.specs.Sheet.{refusalOf};
+ghost use Rattle.causes.specs.Sheet.{lineOf, refusalOf};
 
 pub enum Cause {
     // The register: its cells or its taps.
@@ -45,66 +45,31 @@ pub enum Written {
     Refused(Cause),
 }
 
+// A line of the sheet.
+fn sheet_line(number: usize, value: usize) -> Refusal
+    ensures { λ r. ⌜ r ≡ lineOf number value ⌝ }
+{
+    Refusal { number, value }
+}
+
 // The number and value of a cause, as the refusal sheet has them.
 pub fn refusal_of(cause: Cause) -> Refusal
     ensures { λ r. ⌜ r ≡ refusalOf cause ⌝ }
 {
     match cause {
-        Cause::Register => Refusal {
-            number: 1,
-            value: 0,
-        },
-        Cause::Chains => Refusal {
-            number: 2,
-            value: 0,
-        },
-        Cause::Lengths => Refusal {
-            number: 3,
-            value: 0,
-        },
-        Cause::TestSlice => Refusal {
-            number: 4,
-            value: 0,
-        },
-        Cause::StopSlice => Refusal {
-            number: 5,
-            value: 0,
-        },
-        Cause::SlicesIn => Refusal {
-            number: 6,
-            value: 0,
-        },
-        Cause::NoSeed => Refusal {
-            number: 7,
-            value: 0,
-        },
-        Cause::NoCutting(slices) => Refusal {
-            number: 8,
-            value: slices,
-        },
-        Cause::NoSpace(entries) => Refusal {
-            number: 9,
-            value: entries,
-        },
-        Cause::SeedBeyond(place) => Refusal {
-            number: 10,
-            value: place,
-        },
-        Cause::SeedAtStop(place) => Refusal {
-            number: 11,
-            value: place,
-        },
-        Cause::SeedEndless(place) => Refusal {
-            number: 12,
-            value: place,
-        },
-        Cause::Line(line) => Refusal {
-            number: 13,
-            value: line,
-        },
-        Cause::Total(found) => Refusal {
-            number: 14,
-            value: found,
-        },
+        Cause::Register => sheet_line(1, 0),
+        Cause::Chains => sheet_line(2, 0),
+        Cause::Lengths => sheet_line(3, 0),
+        Cause::TestSlice => sheet_line(4, 0),
+        Cause::StopSlice => sheet_line(5, 0),
+        Cause::SlicesIn => sheet_line(6, 0),
+        Cause::NoSeed => sheet_line(7, 0),
+        Cause::NoCutting(slices) => sheet_line(8, slices),
+        Cause::NoSpace(entries) => sheet_line(9, entries),
+        Cause::SeedBeyond(place) => sheet_line(10, place),
+        Cause::SeedAtStop(place) => sheet_line(11, place),
+        Cause::SeedEndless(place) => sheet_line(12, place),
+        Cause::Line(line) => sheet_line(13, line),
+        Cause::Total(found) => sheet_line(14, found),
     }
 }
