@@ -20,7 +20,7 @@ use Rattle.causes.specs.Sheet.{refusalOf}
 use Rattle.causes.specs.Outcome.{Outcome, refuse, fill}
 use Rattle.register.specs.Register.{step, badRegister}
 use Rattle.register.specs.Chains.{slice as sliceOf, badCount, badMask, badChains}
-use Rattle.register.specs.Machine.{Machine, machine}
+use Rattle.register.specs.Machine.{Machine, base, machine}
 use Rattle.slices.specs.declared.TestSlice.{TestSlice}
 use Rattle.slices.specs.Slices.{agrees, shows, paired, badSlice, badSlices, badStop}
 use Rattle.checks.specs.Lengths.{badWindow, badSet, badCubes, badList}
@@ -63,7 +63,7 @@ abbrev masks : List ℕ
 masks = 1 ∷ 4 ∷ []
 
 abbrev R : Machine
-R = machine 3 6 masks 0
+R = machine (base 3 6) masks
 
 -- a lent buffer
 abbrev lent : List ℕ
@@ -105,12 +105,12 @@ yes false = 0
 answer : Question → Told
 answer (stepping s t) = numbers (states s t)
 answer (stop-slice chains ss) = of-formed (stopOf chains (specifieds ss) (bitses ss))
-answer (window stop ss) = of-seed (windowSeed 3 6 masks (slice stop) (specifieds ss) (bitses ss))
+answer (window stop ss) = of-seed (windowSeed (base 3 6) masks (slice stop) (specifieds ss) (bitses ss))
 answer (fitting stop ss s) = numbers (yes (fits R (slice stop) true (paired (specifieds ss) (bitses ss)) s) ∷ [])
 answer (showing stop m s) = numbers (showings (slice stop) s 0 m)
-answer (set stop ss) = (let o : Outcome = encodeSet 3 6 masks (slice stop) (specifieds ss) (bitses ss) lent in of-written (o .answer) (o .buffer))
-answer (sheet depth ss) = (let o : CubesOutcome = encodeCubes 3 6 masks depth (specifieds ss) (bitses ss) lent in of-encoded (o .answer) (o .buffer))
-answer (expand stop n seeds) = (let o : Outcome = expandList 3 6 masks (slice stop) n seeds lent in of-written (o .answer) (o .buffer))
+answer (set stop ss) = (let o : Outcome = encodeSet (base 3 6) masks (slice stop) (specifieds ss) (bitses ss) lent in of-written (o .answer) (o .buffer))
+answer (sheet depth ss) = (let o : CubesOutcome = encodeCubes (base 3 6) masks depth (specifieds ss) (bitses ss) lent in of-encoded (o .answer) (o .buffer))
+answer (expand stop n seeds) = (let o : Outcome = expandList (base 3 6) masks (slice stop) n seeds lent in of-written (o .answer) (o .buffer))
 
 -- ---- the table
 

@@ -9,6 +9,7 @@ use mathlib.Core.Bool.{Bool, false}
 use mathlib.Core.List.{List}
 use Prim.Native.Nat.{ℕ}
 use lib.ListN.{length}
+use Rattle.register.specs.declared.Settings.{Settings}
 use Rattle.register.specs.Register.{badRegister}
 use Rattle.register.specs.Chains.{badCount, badChains}
 use Rattle.slices.specs.declared.TestSlice.{TestSlice}
@@ -16,25 +17,25 @@ use Rattle.slices.specs.Slices.{badSlices, badStop}
 use Rattle.checks.specs.Lengths.{badWindow, badSet, badCubes, badList}
 use Rattle.checks.specs.declared.Faults.{Faults}
 
-unfoldable pub stoppedFaults : Bool → ℕ → ℕ → List ℕ → TestSlice → List ℕ → List ℕ → Faults
-stoppedFaults lengths cells taps masks stop specified bits = record {
-  register = badRegister cells taps;
-  chains = badChains cells masks;
+unfoldable pub stoppedFaults : Bool → Settings → List ℕ → TestSlice → List ℕ → List ℕ → Faults
+stoppedFaults lengths g masks stop specified bits = record {
+  register = badRegister (g .cells) (g .taps);
+  chains = badChains (g .cells) masks;
   lengths = lengths;
   slices = badSlices (length masks) specified bits;
   stop = badStop (length masks) stop;
 }
 
-unfoldable pub windowFaults : ℕ → ℕ → ℕ → List ℕ → TestSlice → List ℕ → List ℕ → Faults
-windowFaults limit cells taps masks stop specified bits = stoppedFaults (badWindow limit (length specified)) cells taps masks stop specified bits
+unfoldable pub windowFaults : Settings → List ℕ → TestSlice → List ℕ → List ℕ → Faults
+windowFaults g masks stop specified bits = stoppedFaults (badWindow (g .limit) (length specified)) g masks stop specified bits
 
-unfoldable pub setFaults : ℕ → ℕ → List ℕ → TestSlice → List ℕ → List ℕ → Faults
-setFaults cells taps masks stop specified bits = stoppedFaults (badSet (length specified)) cells taps masks stop specified bits
+unfoldable pub setFaults : Settings → List ℕ → TestSlice → List ℕ → List ℕ → Faults
+setFaults g masks stop specified bits = stoppedFaults (badSet (length specified)) g masks stop specified bits
 
-unfoldable pub cubesFaults : ℕ → ℕ → List ℕ → ℕ → List ℕ → List ℕ → Faults
-cubesFaults cells taps masks depth specified bits = record {
-  register = badRegister cells taps;
-  chains = badChains cells masks;
+unfoldable pub cubesFaults : Settings → List ℕ → ℕ → List ℕ → List ℕ → Faults
+cubesFaults g masks depth specified bits = record {
+  register = badRegister (g .cells) (g .taps);
+  chains = badChains (g .cells) masks;
   lengths = badCubes depth (length specified);
   slices = badSlices (length masks) specified bits;
   stop = false;
@@ -49,10 +50,10 @@ stopFaults chains specified bits = record {
   stop = false;
 }
 
-unfoldable pub listFaults : ℕ → ℕ → List ℕ → TestSlice → ℕ → ℕ → Faults
-listFaults cells taps masks stop slices seeds = record {
-  register = badRegister cells taps;
-  chains = badChains cells masks;
+unfoldable pub listFaults : Settings → List ℕ → TestSlice → ℕ → ℕ → Faults
+listFaults g masks stop slices seeds = record {
+  register = badRegister (g .cells) (g .taps);
+  chains = badChains (g .cells) masks;
   lengths = badList slices seeds;
   slices = false;
   stop = badStop (length masks) stop;

@@ -1,5 +1,4 @@
 -- Lengths (document 01, cause 3 of its refusal sheet).
---     longestWindow         the longest window of the base, in slices
 --     mostSlices            the most slices of a set, and the most seeds of a list
 --     mostDepth             the greatest depth of a cube
 --     badWindow limit n     a window of n slices
@@ -11,16 +10,13 @@ use Prim.Native.Nat.{ℕ, _%_}
 use lib.Dec.{ltb, eqb}
 use Rattle.bounded.specs.Bounded.{within}
 
-abbrev pub longestWindow : ℕ
-longestWindow = 256
-
 abbrev pub mostSlices : ℕ
 mostSlices = 2048
 
 abbrev pub mostDepth : ℕ
 mostDepth = 256
 
--- Window length not 1 to 256.
+-- Window length not 1 to the limit, 256 in the base.
 unfoldable pub badWindow : ℕ → ℕ → Bool
 badWindow limit n = not (within 1 limit n)
 

@@ -1,5 +1,6 @@
 // The checks behind causes 1 to 5, for each kind of call, with the order of causes in one place.
 use causes::Cause;
+use register::Settings;
 use slices::TestSlice;
 ghost use mathlib.Core.Path.{_≡_};
 ghost use Rattle.checks.specs.Lengths.{badWindow, badSet, badCubes, badList};
@@ -88,19 +89,18 @@ pub fn bad_list(slices: usize, seeds: usize) -> bool
 // The checks of slices with their stop slice, once their number is judged.
 fn check_stopped(
     lengths: bool,
-    cells: usize,
-    taps: u64,
+    settings: Settings,
     masks: &[u64],
     stop: TestSlice,
     specified: &[u64],
     bits: &[u64],
 ) -> Verdict
-    ensures { λ r. ⌜ r ≡ judged (stoppedFaults lengths cells taps (now (masks .entry)) stop (now (specified .entry)) (now (bits .entry))) ⌝ }
+    ensures { λ r. ⌜ r ≡ judged (stoppedFaults lengths settings (now (masks .entry)) stop (now (specified .entry)) (now (bits .entry))) ⌝ }
 {
     let chains = masks.len();
     judge(Faults {
-        register: register::bad_register(cells, taps),
-        chains: register::bad_chains(cells, masks),
+        register: register::bad_register(settings.cells, settings.taps),
+        chains: register::bad_chains(settings.cells, masks),
         lengths,
         slices: slices::bad_slices(chains, specified, bits),
         stop: slices::bad_stop(chains, stop),
@@ -109,20 +109,17 @@ fn check_stopped(
 
 // The checks of a window with its stop slice.
 pub fn check_window(
-    limit: usize,
-    cells: usize,
-    taps: u64,
+    settings: Settings,
     masks: &[u64],
     stop: TestSlice,
     specified: &[u64],
     bits: &[u64],
 ) -> Verdict
-    ensures { λ r. ⌜ r ≡ judged (windowFaults limit cells taps (now (masks .entry)) stop (now (specified .entry)) (now (bits .entry))) ⌝ }
+    ensures { λ r. ⌜ r ≡ judged (windowFaults settings (now (masks .entry)) stop (now (specified .entry)) (now (bits .entry))) ⌝ }
 {
     check_stopped(
-        bad_window(limit, specified.len()),
-        cells,
-        taps,
+        bad_window(settings.limit, specified.len()),
+        settings,
         masks,
         stop,
         specified,
@@ -132,19 +129,17 @@ pub fn check_window(
 
 // The checks of a set with its stop slice.
 pub fn check_set(
-    cells: usize,
-    taps: u64,
+    settings: Settings,
     masks: &[u64],
     stop: TestSlice,
     specified: &[u64],
     bits: &[u64],
 ) -> Verdict
-    ensures { λ r. ⌜ r ≡ judged (setFaults cells taps (now (masks .entry)) stop (now (specified .entry)) (now (bits .entry))) ⌝ }
+    ensures { λ r. ⌜ r ≡ judged (setFaults settings (now (masks .entry)) stop (now (specified .entry)) (now (bits .entry))) ⌝ }
 {
     check_stopped(
         bad_set(specified.len()),
-        cells,
-        taps,
+        settings,
         masks,
         stop,
         specified,
@@ -154,19 +149,18 @@ pub fn check_set(
 
 // The checks of a set that comes as cubes, without a stop slice.
 pub fn check_cubes(
-    cells: usize,
-    taps: u64,
+    settings: Settings,
     masks: &[u64],
     depth: usize,
     specified: &[u64],
     bits: &[u64],
 ) -> Verdict
-    ensures { λ r. ⌜ r ≡ judged (cubesFaults cells taps (now (masks .entry)) depth (now (specified .entry)) (now (bits .entry))) ⌝ }
+    ensures { λ r. ⌜ r ≡ judged (cubesFaults settings (now (masks .entry)) depth (now (specified .entry)) (now (bits .entry))) ⌝ }
 {
     let chains = masks.len();
     judge(Faults {
-        register: register::bad_register(cells, taps),
-        chains: register::bad_chains(cells, masks),
+        register: register::bad_register(settings.cells, settings.taps),
+        chains: register::bad_chains(settings.cells, masks),
         lengths: bad_cubes(depth, specified.len()),
         slices: slices::bad_slices(chains, specified, bits),
         stop: false,
@@ -188,19 +182,18 @@ pub fn check_stop(chains: usize, specified: &[u64], bits: &[u64]) -> Verdict
 
 // The checks of a seed list before its seeds are run.
 pub fn check_list(
-    cells: usize,
-    taps: u64,
+    settings: Settings,
     masks: &[u64],
     stop: TestSlice,
     slices: usize,
     seeds: usize,
 ) -> Verdict
-    ensures { λ r. ⌜ r ≡ judged (listFaults cells taps (now (masks .entry)) stop slices seeds) ⌝ }
+    ensures { λ r. ⌜ r ≡ judged (listFaults settings (now (masks .entry)) stop slices seeds) ⌝ }
 {
     let chains = masks.len();
     judge(Faults {
-        register: register::bad_register(cells, taps),
-        chains: register::bad_chains(cells, masks),
+        register: register::bad_register(settings.cells, settings.taps),
+        chains: register::bad_chains(settings.cells, masks),
         lengths: bad_list(slices, seeds),
         slices: false,
         stop: slices::bad_stop(chains, stop),

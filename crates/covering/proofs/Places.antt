@@ -17,8 +17,9 @@ use lib.Seq.{drop-cons}
 use borrow.Author.Tests.{ltb-true, ltb-false, leb-true, lt-ltb, le-leb}
 use Rattle.bounded.proofs.Tests.{both, and-yes}
 use Rattle.cutting.specs.Meaning.{Suffix}
+use Rattle.register.specs.Machine.{base}
 use Rattle.slices.specs.declared.TestSlice.{TestSlice}
-use Rattle.covering.specs.Rules.{Rules, base}
+use Rattle.covering.specs.Rules.{Rules, rules}
 use Rattle.covering.specs.Windows.{part, before, far, placed}
 
 before-mono : (es : List ℕ) (i j m n : ℕ) → i ≤ j → m ≤ n → before es i m ≤ before es j n
@@ -60,11 +61,11 @@ pub parts-placed : (R : Rules) (n i k : ℕ) → i < k → k ≤ far R n i → p
 unfolding placed
 parts-placed R n i k a b = and-yes (ltb i k) (leb k (far R n i)) (lt-ltb i k a) (le-leb k (far R n i) b)
 
-pub placed-base : (stop : TestSlice) (n i k : ℕ) → (placed (base stop) n i k ≡ true) ↔ ((i < k) × (k ≤ n) × (k ≤ i + 256))
+pub placed-base : (cells taps : ℕ) (stop : TestSlice) (n i k : ℕ) → (placed (rules (base cells taps) stop) n i k ≡ true) ↔ ((i < k) × (k ≤ n) × (k ≤ i + 256))
 unfolding far before
-placed-base stop n i k = (
-  λ t. (let p = placed-parts (base stop) n i k t in (p .0, (let q = p .1 in omega arith), (let q = p .1 in omega arith))),
-  λ h. parts-placed (base stop) n i k (h .0) (let a = h .1 in let b = h .2 in omega arith),
+placed-base cells taps stop n i k = (
+  λ t. (let p = placed-parts (rules (base cells taps) stop) n i k t in (p .0, (let q = p .1 in omega arith), (let q = p .1 in omega arith))),
+  λ h. parts-placed (rules (base cells taps) stop) n i k (h .0) (let a = h .1 in let b = h .2 in omega arith),
 )
 
 pub suffix-placed : (R : Rules) (n : ℕ) → Suffix (placed R n)

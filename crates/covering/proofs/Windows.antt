@@ -2,7 +2,7 @@
 --     ok-window, window-ok     the test says that some state covers the window
 --     tails                    the rest of a covered part is covered
 --     set-windows              the windows go forward, stay within the set, and are kept by suffixes
---     base-steady              the base has one stop
+--     rules-steady             document 01's rules have one stop
 -- Assumes nothing.
 use mathlib.Core.Path.{_≡_, refl}
 use mathlib.Core.Bool.{Bool, true}
@@ -15,10 +15,11 @@ use Rattle.bounded.proofs.Tests.{both, and-yes}
 use Rattle.cutting.specs.Meaning.{Bounds}
 use Rattle.cutting.specs.Meaning as cutting
 use Rattle.cutting.proofs.Parts.{suffix-under}
+use Rattle.register.specs.declared.Settings.{Settings}
 use Rattle.register.specs.Machine.{Machine}
 use Rattle.slices.specs.declared.TestSlice.{TestSlice}
 use Rattle.covering.specs.Covering.{covers, seedOf}
-use Rattle.covering.specs.Rules.{Rules, base}
+use Rattle.covering.specs.Rules.{Rules, rules}
 use Rattle.covering.specs.Windows.{part, placed, closes, coversPart, CoveredBy, Window, seedAt, found, ok, Steady}
 use Rattle.covering.proofs.Tail.{covers-tail, covered-found, found-covered}
 use Rattle.covering.proofs.Places.{far-le, placed-parts, suffix-placed, part-cons}
@@ -72,5 +73,5 @@ module _ (M : Machine) (stays : (s : ℕ) → s < M .states → M .step s < M .s
           rw (← (steady i j le (omega arith)))
           (tails (R .live i) (closes R (length set) k) i j k le lt (omega (arith, far-le R (length set) i .0)) q)
 
-pub base-steady : (stop : TestSlice) (n : ℕ) → Steady (base stop) n
-base-steady stop n i j le lt = refl
+pub rules-steady : (g : Settings) (stop : TestSlice) (n : ℕ) → Steady (rules g stop) n
+rules-steady g stop n i j le lt = refl

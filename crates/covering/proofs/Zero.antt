@@ -6,20 +6,21 @@ use mathlib.Core.List.{List, [], _∷_}
 use Prim.Native.Nat.{ℕ}
 use Rattle.bounded.proofs.Tests.{clash, both}
 use borrow.Author.Tests.{not-true}
+use Rattle.register.specs.declared.Settings.{Settings}
 use Rattle.register.specs.Machine.{Machine, machine}
 use Rattle.register.proofs.Steps.{step-zero}
 use Rattle.slices.specs.declared.TestSlice.{TestSlice}
 use Rattle.slices.specs.Slices.{agrees, shows}
 use Rattle.covering.specs.Covering.{fits, quiet, covers}
 
-module _ (cells taps : ℕ) (masks : List ℕ) (inverted : ℕ) (stop : TestSlice) where
+module _ (g : Settings) (masks : List ℕ) (stop : TestSlice) where
   abbrev M : Machine
-  M = machine cells taps masks inverted
+  M = machine g masks
 
   stop-at-once : (w : List TestSlice) → fits M stop true w 0 ≡ true → shows stop (M .slice 0) ≡ true
   unfolding fits
   stop-at-once [] h = h
-  stop-at-once (t ∷ w) h = stop-at-once w (rw (step-zero cells taps) at (both (agrees t (M .slice 0)) _ h .1))
+  stop-at-once (t ∷ w) h = stop-at-once w (rw (step-zero (g .cells) (g .taps)) at (both (agrees t (M .slice 0)) _ h .1))
 
   pub zero-covers-nothing : (t : TestSlice) (w : List TestSlice) → covers M stop true (t ∷ w) 0 ≡ true → ⊥
   unfolding covers quiet

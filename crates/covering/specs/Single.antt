@@ -1,10 +1,11 @@
 -- The seed of a window given singly (document 01, "Covering and cutting" and its refusal sheet: 1 to 5, then 7).
---     windowSeed cells taps masks stop specified bits     the answer of the call
+--     windowSeed g masks stop specified bits     the answer of the call
 use mathlib.Core.Bool.{true}
 use mathlib.Core.Option.{Option, none, some}
 use mathlib.Core.List.{List}
 use Prim.Native.Nat.{ℕ}
 use Rattle.causes.specs.declared.Cause.the-variants as cause
+use Rattle.register.specs.declared.Settings.{Settings}
 use Rattle.register.specs.Machine.{machine}
 use Rattle.slices.specs.declared.TestSlice.{TestSlice}
 use Rattle.slices.specs.Slices.{paired}
@@ -12,7 +13,6 @@ use Rattle.checks.specs.Order.{judged}
 use Rattle.checks.specs.Calls.{windowFaults}
 use Rattle.checks.specs.declared.Verdict.the-variants as verdict
 use Rattle.covering.specs.Covering.{seedOf}
-use Rattle.covering.specs.Rules.{Rules, base}
 use Rattle.covering.specs.declared.Seed.{Seed}
 use Rattle.covering.specs.declared.Seed.the-variants.{Lowest, Refused}
 
@@ -20,10 +20,8 @@ unfoldable pub lowestOr7 : Option ℕ → Seed
 lowestOr7 none = Refused cause.NoSeed
 lowestOr7 (some s) = Lowest s
 
-unfoldable pub windowSeed : ℕ → ℕ → List ℕ → TestSlice → List ℕ → List ℕ → Seed
-windowSeed cells taps masks stop specified bits =
-    let R : Rules = base stop in
-    elim (judged (windowFaults (R .limit) cells taps masks stop specified bits)) [
-      | verdict.Refused c ↦ Refused c
-      | verdict.WellFormed ↦ lowestOr7 (seedOf (machine cells taps masks (R .inverted)) stop true (paired specified bits))
-    ]
+unfoldable pub windowSeed : Settings → List ℕ → TestSlice → List ℕ → List ℕ → Seed
+windowSeed g masks stop specified bits = elim (judged (windowFaults g masks stop specified bits)) [
+  | verdict.Refused c ↦ Refused c
+  | verdict.WellFormed ↦ lowestOr7 (seedOf (machine g masks) stop true (paired specified bits))
+]

@@ -13,6 +13,7 @@ use Rattle.bounded.specs.Bounded.{within}
 use Rattle.bounded.proofs.Tests.{within-yes}
 use Rattle.causes.specs.declared.Cause.{Cause}
 use Rattle.causes.specs.Outcome.{refuse}
+use Rattle.register.specs.declared.Settings.{Settings}
 use Rattle.register.specs.Machine.{Machine, machine}
 use Rattle.register.proofs.Steps.{step-below}
 use Rattle.slices.specs.declared.TestSlice.{TestSlice}
@@ -27,31 +28,31 @@ use Rattle.checks.specs.declared.Verdict.the-variants as verdict
 use Rattle.checks.proofs.Lengths.{list-seeds}
 use Rattle.checks.proofs.Order.{NoFault, well-formed, formed-well}
 use Rattle.cutting.proofs.Parts.{covering-length, cuts-count}
-use Rattle.covering.specs.Rules.{Rules, base}
+use Rattle.covering.specs.Rules.{Rules, rules}
 use Rattle.covering.specs.Windows.{CoveredBy, ok}
-use Rattle.covering.proofs.Windows.{base-steady, set-bounds}
+use Rattle.covering.proofs.Windows.{rules-steady, set-bounds}
 use Rattle.expander.specs.Expanding.{expanding, expandList}
 use Rattle.encoder.specs.Encoding.{encoding, encodeSet}
 use Rattle.encoder.specs.Meaning.{Delivers, Shortest, Listed, Meaning, SetMeaning}
 use Rattle.encoder.proofs.Seeds.{covering-cuts}
 use Rattle.encoder.proofs.Meaning.{encoding-means, list-delivers}
 
-module _ (cells taps : ℕ) (masks : List ℕ) (stop : TestSlice) (specified bits : List ℕ) where
+module _ (g : Settings) (masks : List ℕ) (stop : TestSlice) (specified bits : List ℕ) where
   abbrev M : Machine
-  M = machine cells taps masks 0
+  M = machine g masks
 
   abbrev R : Rules
-  R = base stop
+  R = rules g stop
 
   abbrev set : List TestSlice
   set = paired specified bits
 
   abbrev verdict-of : Verdict
-  verdict-of = judged (setFaults cells taps masks stop specified bits)
+  verdict-of = judged (setFaults g masks stop specified bits)
 
-  faultless : verdict-of ≡ verdict.WellFormed → NoFault (stoppedFaults (badSet (length specified)) cells taps masks stop specified bits)
+  faultless : verdict-of ≡ verdict.WellFormed → NoFault (stoppedFaults (badSet (length specified)) g masks stop specified bits)
   unfolding setFaults
-  faultless w = formed-well (setFaults cells taps masks stop specified bits) w
+  faultless w = formed-well (setFaults g masks stop specified bits) w
 
   set-length : verdict-of ≡ verdict.WellFormed → length set ≡ length specified
   unfolding stoppedFaults
@@ -66,9 +67,9 @@ module _ (cells taps : ℕ) (masks : List ℕ) (stop : TestSlice) (specified bit
       omega (arith, cuts-count (ok M R set) (length set) (set-bounds M R set) (covering-cuts M R set (l .covers)), covering-length (CoveredBy M R set) (l .covers), set-length w, few-slices w)
 
   pub list-formed : verdict-of ≡ verdict.WellFormed → (seeds : List ℕ) → Shortest M R set seeds
-      → judged (listFaults cells taps masks stop (length specified) (length seeds)) ≡ verdict.WellFormed
+      → judged (listFaults g masks stop (length specified) (length seeds)) ≡ verdict.WellFormed
   unfolding stoppedFaults listFaults
-  list-formed w seeds l = well-formed (listFaults cells taps masks stop (length specified) (length seeds)) (record {
+  list-formed w seeds l = well-formed (listFaults g masks stop (length specified) (length seeds)) (record {
     register = faultless w .register;
     chains = faultless w .chains;
     lengths = list-seeds (length specified) (length seeds) (faultless w .lengths) ∙ le-ltb 2048 (length seeds) (few-seeds w seeds l);
@@ -77,31 +78,31 @@ module _ (cells taps : ℕ) (masks : List ℕ) (stop : TestSlice) (specified bit
   })
 
   expands-back : verdict-of ≡ verdict.WellFormed → (seeds out : List ℕ) → Shortest M R set seeds
-      → expandList cells taps masks stop (length specified) seeds out ≡ expanding M R (length set) seeds out
+      → expandList g masks stop (length specified) seeds out ≡ expanding M R (length set) seeds out
   unfolding expandList
   expands-back w seeds out l = rw (list-formed w seeds l, expandList, set-length w)
 
-  list-back : verdict-of ≡ verdict.WellFormed → (seeds : List ℕ) → Shortest M R set seeds → Delivers set (expandList cells taps masks stop (length specified) seeds)
+  list-back : verdict-of ≡ verdict.WellFormed → (seeds : List ℕ) → Shortest M R set seeds → Delivers set (expandList g masks stop (length specified) seeds)
   list-back w seeds l =
       let d = list-delivers M R set refl (l .ends) seeds (l .covers) in
       record { slices = d .slices; accepted = λ out. expands-back w seeds out l ∙ d .accepted out; whole = d .whole; agree = d .agree }
 
   module _ (out : List ℕ) where
-    well : verdict-of ≡ verdict.WellFormed → encodeSet cells taps masks stop specified bits out ≡ encoding M R set out
+    well : verdict-of ≡ verdict.WellFormed → encodeSet g masks stop specified bits out ≡ encoding M R set out
     unfolding encodeSet
     well w = rw (w, encodeSet)
 
-    refusal : (c : Cause) → verdict-of ≡ verdict.Refused c → encodeSet cells taps masks stop specified bits out ≡ refuse c out
+    refusal : (c : Cause) → verdict-of ≡ verdict.Refused c → encodeSet g masks stop specified bits out ≡ refuse c out
     unfolding encodeSet
     refusal c w = rw (w, encodeSet)
 
-    means : verdict-of ≡ verdict.WellFormed → Meaning M R set out (encodeSet cells taps masks stop specified bits out)
-    means w = rw (well w) (encoding-means M R set out (λ s h. step-below cells taps s) (base-steady stop (length set)))
+    means : verdict-of ≡ verdict.WellFormed → Meaning M R set out (encodeSet g masks stop specified bits out)
+    means w = rw (well w) (encoding-means M R set out (λ s h. step-below (g .cells) (g .taps) s) (rules-steady g stop (length set)))
 
     front : (n : ℕ) (l : Listed M R set n) (buffer : List ℕ) → buffer ≡ l .seeds ++ drop n out → l .seeds ≡ take n buffer
     front n l buffer e = rw e (sym (take-at (l .seeds) (drop n out) n (l .count)))
 
-    pub set-means : SetMeaning cells taps masks stop specified bits out (encodeSet cells taps masks stop specified bits out)
+    pub set-means : SetMeaning g masks stop specified bits out (encodeSet g masks stop specified bits out)
     set-means = record {
       refused = refusal;
       meaning = means;

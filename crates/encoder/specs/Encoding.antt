@@ -1,9 +1,9 @@
 -- The encoding of a set (document 01, "Covering and cutting", and its refusal sheet: 1 to 5, then 6 or 8, then 9).
 --     seedsOf M R set a ends      the seeds of the windows from the place a on
 --     encoding M R set out        the answer and the buffer that the encoding of a set leaves: the seeds of its greedy cutting, cause 8 with the place where it is stuck, or cause 9
---     encodeSet cells taps masks stop specified bits out     the same of the whole call, with the stop slice handed in
+--     encodeSet g masks stop specified bits out     the same of the whole call, with the stop slice handed in
 --     CubesOutcome, withStop      an answer that carries the stop slice too
---     encodeCubes cells taps masks depth specified bits out     the same of the whole call for cubes of depth slices, with the stop slice of the steps
+--     encodeCubes g masks depth specified bits out     the same of the whole call for cubes of depth slices, with the stop slice of the steps
 use mathlib.Core.Option.{none, some, Option·getD}
 use mathlib.Core.List.{List, [], _∷_}
 use Prim.Native.Nat.{ℕ}
@@ -12,6 +12,7 @@ use Rattle.causes.specs.declared.Cause.the-variants as cause
 use Rattle.causes.specs.declared.Written.{Written}
 use Rattle.causes.specs.declared.Written.the-variants as written
 use Rattle.causes.specs.Outcome.{Outcome, refuse, fill}
+use Rattle.register.specs.declared.Settings.{Settings}
 use Rattle.register.specs.Machine.{Machine, machine}
 use Rattle.slices.specs.declared.TestSlice.{TestSlice}
 use Rattle.slices.specs.Slices.{paired}
@@ -20,7 +21,7 @@ use Rattle.checks.specs.Calls.{setFaults, cubesFaults}
 use Rattle.checks.specs.declared.Verdict.the-variants as verdict
 use Rattle.cutting.specs.Greedy.{Plan, done, stuck, greedy}
 use Rattle.stop.specs.Steps.{stopFor}
-use Rattle.covering.specs.Rules.{Rules, base}
+use Rattle.covering.specs.Rules.{Rules, rules}
 use Rattle.covering.specs.Windows.{seedAt, ok}
 use Rattle.encoder.specs.declared.Encoded.{Encoded}
 use Rattle.encoder.specs.declared.Encoded.the-variants.{Seeds, Refused}
@@ -36,10 +37,10 @@ planned M R set out (done es) = fill (seedsOf M R set 0 es) out
 unfoldable pub encoding : Machine → Rules → List TestSlice → List ℕ → Outcome
 encoding M R set out = planned M R set out (greedy (ok M R set) (length set))
 
-unfoldable pub encodeSet : ℕ → ℕ → List ℕ → TestSlice → List ℕ → List ℕ → List ℕ → Outcome
-encodeSet cells taps masks stop specified bits out = elim (judged (setFaults cells taps masks stop specified bits)) [
+unfoldable pub encodeSet : Settings → List ℕ → TestSlice → List ℕ → List ℕ → List ℕ → Outcome
+encodeSet g masks stop specified bits out = elim (judged (setFaults g masks stop specified bits)) [
   | verdict.Refused c ↦ refuse c out
-  | verdict.WellFormed ↦ (let R : Rules = base stop in encoding (machine cells taps masks (R .inverted)) R (paired specified bits) out)
+  | verdict.WellFormed ↦ encoding (machine g masks) (rules g stop) (paired specified bits) out
 ]
 
 pub record CubesOutcome : Type 0 where
@@ -53,11 +54,11 @@ stopped stop (written.Refused c) = Refused c
 unfoldable pub withStop : TestSlice → Outcome → CubesOutcome
 withStop stop o = record { answer = stopped stop (o .answer); buffer = o .buffer }
 
-unfoldable pub encodeCubes : ℕ → ℕ → List ℕ → ℕ → List ℕ → List ℕ → List ℕ → CubesOutcome
-encodeCubes cells taps masks depth specified bits out = elim (judged (cubesFaults cells taps masks depth specified bits)) [
+unfoldable pub encodeCubes : Settings → List ℕ → ℕ → List ℕ → List ℕ → List ℕ → CubesOutcome
+encodeCubes g masks depth specified bits out = elim (judged (cubesFaults g masks depth specified bits)) [
   | verdict.Refused c ↦ record { answer = Refused c; buffer = out }
   | verdict.WellFormed ↦ elim (stopFor (length masks) (paired specified bits)) [
     | none ↦ record { answer = Refused cause.SlicesIn; buffer = out }
-    | some stop ↦ (let R : Rules = base stop in withStop stop (encoding (machine cells taps masks (R .inverted)) R (paired specified bits) out))
+    | some stop ↦ withStop stop (encoding (machine g masks) (rules g stop) (paired specified bits) out)
   ]
 ]

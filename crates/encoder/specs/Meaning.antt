@@ -16,8 +16,9 @@ use Rattle.causes.specs.declared.Written.the-variants.{Count, Refused}
 use Rattle.causes.specs.Outcome.{Outcome, refuse, fill}
 use Rattle.slices.specs.declared.TestSlice.{TestSlice}
 use Rattle.cutting.specs.Cutting.{Cutting, Covering, delivered}
-use Rattle.covering.specs.Rules.{Rules, base}
+use Rattle.covering.specs.Rules.{Rules, rules}
 use Rattle.covering.specs.Windows.{CoveredBy, Window}
+use Rattle.register.specs.declared.Settings.{Settings}
 use Rattle.register.specs.Machine.{Machine, machine}
 use Rattle.slices.specs.Slices.{agrees, paired}
 use Rattle.checks.specs.Order.{judged}
@@ -60,8 +61,8 @@ pub record Meaning (M : Machine) (R : Rules) (set : List TestSlice) (out : List 
   pub exactly : ((g : ℕ) × (o .answer ≡ Refused (cause.NoCutting g))) ↔ ((es : List ℕ) → Cutting (Window M R set) 0 es (length set) → ⊥)
 
 -- The call with the stop slice handed in: the first of causes 1 to 5 that holds; otherwise what the encoding means, and an accepted list expands back to the set.
-pub record SetMeaning (cells taps : ℕ) (masks : List ℕ) (stop : TestSlice) (specified bits out : List ℕ) (o : Outcome) : Type 0 where
-  pub refused : (c : Cause) → judged (setFaults cells taps masks stop specified bits) ≡ verdict.Refused c → o ≡ refuse c out
-  pub meaning : judged (setFaults cells taps masks stop specified bits) ≡ verdict.WellFormed → Meaning (machine cells taps masks 0) (base stop) (paired specified bits) out o
-  pub delivers : (n : ℕ) → judged (setFaults cells taps masks stop specified bits) ≡ verdict.WellFormed → o .answer ≡ Count n
-      → Delivers (paired specified bits) (expandList cells taps masks stop (length specified) (take n (o .buffer)))
+pub record SetMeaning (g : Settings) (masks : List ℕ) (stop : TestSlice) (specified bits out : List ℕ) (o : Outcome) : Type 0 where
+  pub refused : (c : Cause) → judged (setFaults g masks stop specified bits) ≡ verdict.Refused c → o ≡ refuse c out
+  pub meaning : judged (setFaults g masks stop specified bits) ≡ verdict.WellFormed → Meaning (machine g masks) (rules g stop) (paired specified bits) out o
+  pub delivers : (n : ℕ) → judged (setFaults g masks stop specified bits) ≡ verdict.WellFormed → o .answer ≡ Count n
+      → Delivers (paired specified bits) (expandList g masks stop (length specified) (take n (o .buffer)))

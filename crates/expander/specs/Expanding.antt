@@ -2,7 +2,7 @@
 --     Walk                                  the slices of all seeds, or the cause of the first refused seed
 --     walk M R n place done seeds           the seeds from that place on, when done of n slices are delivered
 --     expanding M R n seeds out             the answer and the buffer that expanding leaves
---     expandList cells taps masks stop n seeds out     the same of the whole call: causes 1, 2, 3 and 5 come first
+--     expandList g masks stop n seeds out     the same of the whole call: causes 1, 2, 3 and 5 come first
 use mathlib.Core.Bool.{Bool, true, false, _&&_}
 use mathlib.Core.List.{List, [], _∷_, _++_}
 use Prim.Native.Nat.{ℕ, suc, _+_, _-_}
@@ -11,12 +11,13 @@ use lib.ListN.{length}
 use Rattle.causes.specs.declared.Cause.{Cause}
 use Rattle.causes.specs.declared.Cause.the-variants.{Total}
 use Rattle.causes.specs.Outcome.{Outcome, refuse, fill}
+use Rattle.register.specs.declared.Settings.{Settings}
 use Rattle.register.specs.Machine.{Machine, machine}
 use Rattle.slices.specs.declared.TestSlice.{TestSlice}
 use Rattle.checks.specs.Order.{judged}
 use Rattle.checks.specs.Calls.{listFaults}
 use Rattle.checks.specs.declared.Verdict.the-variants as verdict
-use Rattle.covering.specs.Rules.{Rules, base}
+use Rattle.covering.specs.Rules.{Rules, rules}
 use Rattle.expander.specs.Run.{slicesOf, gives, fails, delivers}
 
 pub data Walk : Type 0 where
@@ -46,8 +47,8 @@ totalled n out (ran vs) = elim (eqb (length vs) n) [ true ↦ fill vs out | fals
 unfoldable pub expanding : Machine → Rules → ℕ → List ℕ → List ℕ → Outcome
 expanding M R n seeds out = totalled n out (walk M R n 0 0 seeds)
 
-unfoldable pub expandList : ℕ → ℕ → List ℕ → TestSlice → ℕ → List ℕ → List ℕ → Outcome
-expandList cells taps masks stop n seeds out = elim (judged (listFaults cells taps masks stop n (length seeds))) [
+unfoldable pub expandList : Settings → List ℕ → TestSlice → ℕ → List ℕ → List ℕ → Outcome
+expandList g masks stop n seeds out = elim (judged (listFaults g masks stop n (length seeds))) [
   | verdict.Refused c ↦ refuse c out
-  | verdict.WellFormed ↦ (let R : Rules = base stop in expanding (machine cells taps masks (R .inverted)) R n seeds out)
+  | verdict.WellFormed ↦ expanding (machine g masks) (rules g stop) n seeds out
 ]

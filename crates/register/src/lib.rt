@@ -5,6 +5,7 @@ ghost use Prim.Native.Nat.{min};
 ghost use lib.ListN.{length, take};
 ghost use Rattle.bounded.specs.Bounded.{any};
 ghost use Rattle.register.specs.Register.{badRegister, madeOf, stepOf};
+ghost use Rattle.register.specs.Machine.{base as baseOf};
 ghost use Rattle.register.specs.Chains.{badCount, badMask, badChains, slice as sliceOf};
 
 // The most chains.
@@ -13,6 +14,13 @@ pub const MOST_CHAINS: usize = 64;
 pub struct Register {
     pub cells: usize,
     pub taps: u64,
+}
+
+// The settings of a call: its register, and the most slices of a window.
+pub struct Settings {
+    pub cells: usize,
+    pub taps: u64,
+    pub limit: usize,
 }
 
 // What the constructor answers: the register, or cause 1.
@@ -48,6 +56,17 @@ impl Register {
         } else {
             next
         }
+    }
+}
+
+// The settings of the base: windows of up to 256 slices.
+pub fn base(cells: usize, taps: u64) -> Settings
+    ensures { λ r. ⌜ r ≡ baseOf cells taps ⌝ }
+{
+    Settings {
+        cells,
+        taps,
+        limit: Register::LONGEST_WINDOW,
     }
 }
 

@@ -5,9 +5,9 @@ use slices::TestSlice;
 ghost use mathlib.Core.Path.{_≡_};
 ghost use lib.ListN.{take};
 ghost use Rattle.register.specs.Register.{stepOf};
+ghost use Rattle.register.specs.Machine.{base};
 ghost use Rattle.register.specs.Chains.{slice as sliceOf};
 ghost use Rattle.slices.specs.Slices.{agrees, shows};
-ghost use Rattle.checks.specs.Lengths.{longestWindow};
 ghost use Rattle.checks.specs.Order.{judged};
 ghost use Rattle.checks.specs.Calls.{windowFaults, setFaults, cubesFaults, stopFaults, listFaults};
 ghost use Rattle.seeds.specs.Face.{registerOf, testSliceOf, numberOf};
@@ -73,21 +73,13 @@ pub extern "C" fn seeds_check_window(
     specified: &[u64],
     bits: &[u64],
 ) -> usize
-    ensures { λ r. ⌜ r ≡ numberOf (judged (windowFaults longestWindow cells taps (now (masks .entry)) (testSliceOf «stop_specified» «stop_bits») (now (specified .entry)) (now (bits .entry)))) ⌝ }
+    ensures { λ r. ⌜ r ≡ numberOf (judged (windowFaults (base cells taps) (now (masks .entry)) (testSliceOf «stop_specified» «stop_bits») (now (specified .entry)) (now (bits .entry)))) ⌝ }
 {
     let stop = TestSlice {
         specified: stop_specified,
         bits: stop_bits,
     };
-    number(checks::check_window(
-        Register::LONGEST_WINDOW,
-        cells,
-        taps,
-        masks,
-        stop,
-        specified,
-        bits,
-    ))
+    number(checks::check_window(register::base(cells, taps), masks, stop, specified, bits))
 }
 
 // The number of the first of causes 1 to 5 that refuses a set with its stop slice, or 0.
@@ -101,13 +93,13 @@ pub extern "C" fn seeds_check_set(
     specified: &[u64],
     bits: &[u64],
 ) -> usize
-    ensures { λ r. ⌜ r ≡ numberOf (judged (setFaults cells taps (now (masks .entry)) (testSliceOf «stop_specified» «stop_bits») (now (specified .entry)) (now (bits .entry)))) ⌝ }
+    ensures { λ r. ⌜ r ≡ numberOf (judged (setFaults (base cells taps) (now (masks .entry)) (testSliceOf «stop_specified» «stop_bits») (now (specified .entry)) (now (bits .entry)))) ⌝ }
 {
     let stop = TestSlice {
         specified: stop_specified,
         bits: stop_bits,
     };
-    number(checks::check_set(cells, taps, masks, stop, specified, bits))
+    number(checks::check_set(register::base(cells, taps), masks, stop, specified, bits))
 }
 
 // The number of the first of causes 1 to 4 that refuses a set that comes as cubes, or 0.
@@ -120,9 +112,9 @@ pub extern "C" fn seeds_check_cubes(
     specified: &[u64],
     bits: &[u64],
 ) -> usize
-    ensures { λ r. ⌜ r ≡ numberOf (judged (cubesFaults cells taps (now (masks .entry)) depth (now (specified .entry)) (now (bits .entry)))) ⌝ }
+    ensures { λ r. ⌜ r ≡ numberOf (judged (cubesFaults (base cells taps) (now (masks .entry)) depth (now (specified .entry)) (now (bits .entry)))) ⌝ }
 {
-    number(checks::check_cubes(cells, taps, masks, depth, specified, bits))
+    number(checks::check_cubes(register::base(cells, taps), masks, depth, specified, bits))
 }
 
 // The number of the first of causes 2 to 4 that refuses a set whose stop slice is asked for, or 0.
@@ -144,11 +136,11 @@ pub extern "C" fn seeds_check_list(
     slices: usize,
     seeds: usize,
 ) -> usize
-    ensures { λ r. ⌜ r ≡ numberOf (judged (listFaults cells taps (now (masks .entry)) (testSliceOf «stop_specified» «stop_bits») slices seeds)) ⌝ }
+    ensures { λ r. ⌜ r ≡ numberOf (judged (listFaults (base cells taps) (now (masks .entry)) (testSliceOf «stop_specified» «stop_bits») slices seeds)) ⌝ }
 {
     let stop = TestSlice {
         specified: stop_specified,
         bits: stop_bits,
     };
-    number(checks::check_list(cells, taps, masks, stop, slices, seeds))
+    number(checks::check_list(register::base(cells, taps), masks, stop, slices, seeds))
 }

@@ -1,9 +1,12 @@
 -- `seeds::seeds_check_cubes` meets its contract. Assumes nothing.
-use borrow.Author.Needs.{needs}
 use mathlib.Core.Path.{ap, _∙_}
 use Rattle.seeds.specs.Face.{numberOf}
+use borrow.Author.Needs.{needs}
 use Rattle.seeds.proofs.seeds_check_cubes.Statement.{statement}
 use Rattle.seeds.proofs.seeds_check_cubes.Tie as tie
+
+base-requires : tie.Need-base-requires
+base-requires c κs = search needs
 
 check-cubes-requires : tie.Need-check-cubes-requires
 check-cubes-requires c κs = search needs
@@ -12,7 +15,8 @@ number-requires : tie.Need-number-requires
 number-requires c κs = search needs
 
 returns : tie.Need-returns
-returns c = c .number .ensures ∙ ap numberOf (c .before .check-cubes .ensures)
+returns c = c .number .ensures ∙ ap numberOf (rw (c .before .before .base .ensures) at (c .before .check-cubes .ensures))
 
 pub seeds-check-cubes-spec : {M : Type 1} → statement M
-seeds-check-cubes-spec = tie.close (tie.spec check-cubes-requires number-requires returns)
+seeds-check-cubes-spec =
+    tie.close (tie.spec base-requires check-cubes-requires number-requires returns)
