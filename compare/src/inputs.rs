@@ -23,11 +23,11 @@ pub fn lawful(
     most_chains: usize,
     most_slices: usize,
 ) -> Call {
-    let cells = random.from_to(1, most_cells);
-    let chains = random.from_to(1, most_chains);
-    let depth = random.from_to(1, 4).min(most_slices);
-    let count = depth * random.from_to(1, most_slices / depth);
-    let percent = [20, 40, 60, 90][random.from_to(0, 3)];
+    let cells = random.between(1, most_cells);
+    let chains = random.between(1, most_chains);
+    let depth = random.between(1, 4).min(most_slices);
+    let count = depth * random.between(1, most_slices / depth);
+    let percent = [20, 40, 60, 90][random.between(0, 3)];
     let taps = lawful_taps(random, cells);
     let masks = (0..chains).map(|_| lawful_mask(random, cells)).collect();
     let stop_specified = random.bits(chains).max(1);
@@ -35,7 +35,7 @@ pub fn lawful(
     let pairs: Vec<(u64, u64)> = (0..count)
         .map(|_| lawful_slice(random, chains, percent))
         .collect();
-    let seeds = (0..random.from_to(0, 6))
+    let seeds = (0..random.between(0, 6))
         .map(|_| random.bits(cells))
         .collect();
     Call {
@@ -62,7 +62,7 @@ pub fn damage(random: &mut Random, call: &mut Call) {
         }
     };
     match random.below(18) {
-        0 => call.cells = [0, 65, 66, 1 << 40, usize::MAX][random.from_to(0, 4)],
+        0 => call.cells = [0, 65, 66, 1 << 40, usize::MAX][random.between(0, 4)],
         1 => call.taps = random.word(),
         2 => {
             call.taps &= !(1u64
@@ -83,13 +83,13 @@ pub fn damage(random: &mut Random, call: &mut Call) {
                 call.masks[at] = random.word() | 1 << 63;
             }
         }
-        7 => call.depth = [0, 257, 256, 7, usize::MAX][random.from_to(0, 4)],
+        7 => call.depth = [0, 257, 256, 7, usize::MAX][random.between(0, 4)],
         8 => {
             call.specified.clear();
             call.bits.clear();
         }
         9 => {
-            let count = [256, 257, 2048, 2049][random.from_to(0, 3)];
+            let count = [256, 257, 2048, 2049][random.between(0, 3)];
             call.specified.resize(count, 0);
             call.bits.resize(count, 0);
         }
@@ -115,7 +115,7 @@ pub fn damage(random: &mut Random, call: &mut Call) {
         }
         14 => call.stop = (0, 0),
         15 => call.stop = (random.word(), random.bits(chains)),
-        16 => call.slices = [0, 2048, 2049, usize::MAX][random.from_to(0, 3)],
-        _ => call.seeds = vec![1; [0, 2047, 2048, 2049][random.from_to(0, 3)]],
+        16 => call.slices = [0, 2048, 2049, usize::MAX][random.between(0, 3)],
+        _ => call.seeds = vec![1; [0, 2047, 2048, 2049][random.between(0, 3)]],
     }
 }

@@ -50,7 +50,7 @@ pub fn agreeing() -> Outcome {
     let mut random = Random(3);
     let mut count = 0;
     for _ in 0..50_000 {
-        let width = random.from_to(1, 64);
+        let width = random.between(1, 64);
         let specified = random.sparse(width, 10);
         let slice = random.bits(width);
         let bits = if random.one_in(2) {

@@ -17,7 +17,7 @@ impl Random {
     }
 
     /// A number from `low` to `high`.
-    pub fn from_to(&mut self, low: usize, high: usize) -> usize {
+    pub fn between(&mut self, low: usize, high: usize) -> usize {
         low + self.below((high - low + 1) as u64) as usize
     }
 

@@ -3,3 +3,4 @@ pub mod Tail
 pub mod Places
 pub mod Windows
 pub mod Zero
+pub mod Single

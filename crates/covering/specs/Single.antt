@@ -1,9 +1,14 @@
 -- The seed of a window given singly (document 01, "Covering and cutting" and its refusal sheet: 1 to 5, then 7).
 --     windowSeed g masks stop specified bits     the answer of the call
+--     WindowMeaning g masks stop specified bits r     what the answer r says of the window
 use mathlib.Core.Bool.{true}
 use mathlib.Core.Option.{Option, none, some}
 use mathlib.Core.List.{List}
-use Prim.Native.Nat.{ℕ}
+use mathlib.Core.Path.{_≡_}
+use mathlib.Core.Logic.{_↔_}
+use Prim.Native.Nat.{ℕ, _^_}
+use Rattle.bounded.specs.Bounded.{Least, NoneBelow}
+use Rattle.causes.specs.declared.Cause.{Cause}
 use Rattle.causes.specs.declared.Cause.the-variants as cause
 use Rattle.register.specs.declared.Settings.{Settings}
 use Rattle.register.specs.Machine.{machine}
@@ -12,7 +17,7 @@ use Rattle.slices.specs.Slices.{paired}
 use Rattle.checks.specs.Order.{judged}
 use Rattle.checks.specs.Calls.{windowFaults}
 use Rattle.checks.specs.declared.Verdict.the-variants as verdict
-use Rattle.covering.specs.Covering.{seedOf}
+use Rattle.covering.specs.Covering.{covers, seedOf}
 use Rattle.covering.specs.declared.Seed.{Seed}
 use Rattle.covering.specs.declared.Seed.the-variants.{Lowest, Refused}
 
@@ -25,3 +30,9 @@ windowSeed g masks stop specified bits = elim (judged (windowFaults g masks stop
   | verdict.Refused c ↦ Refused c
   | verdict.WellFormed ↦ lowestOr7 (seedOf (machine g masks) stop true (paired specified bits))
 ]
+
+-- The first of causes 1 to 5 that holds; otherwise 7 exactly when no state covers the window, and else the lowest covering state.
+pub record WindowMeaning (g : Settings) (masks : List ℕ) (stop : TestSlice) (specified bits : List ℕ) (r : Seed) : Type 0 where
+  pub refused : (c : Cause) → judged (windowFaults g masks stop specified bits) ≡ verdict.Refused c → r ≡ Refused c
+  pub lowest : judged (windowFaults g masks stop specified bits) ≡ verdict.WellFormed → (s : ℕ) → r ≡ Lowest s → Least (covers (machine g masks) stop true (paired specified bits)) (2 ^ g .cells) s
+  pub none : judged (windowFaults g masks stop specified bits) ≡ verdict.WellFormed → (r ≡ Refused cause.NoSeed) ↔ NoneBelow (covers (machine g masks) stop true (paired specified bits)) (2 ^ g .cells)

@@ -1,0 +1,57 @@
+-- The answer for a window given singly means what it says.
+-- Assumes nothing.
+use mathlib.Core.Path.{_≡_, refl, sym, _∙_}
+use mathlib.Core.Logic.{_↔_}
+use mathlib.Core.Bool.{Bool, true}
+use mathlib.Core.Option.{Option, none, some}
+use mathlib.Core.List.{List}
+use Prim.Native.Nat.{ℕ, _^_}
+use native.Mathlib.Omega.{arith}
+use Rattle.bounded.specs.Bounded.{Least, NoneBelow, leastBelow}
+use Rattle.bounded.proofs.Tests.{clash}
+use Rattle.bounded.proofs.Search.{LeastIs, least-is}
+use Rattle.causes.specs.declared.Cause.{Cause}
+use Rattle.causes.specs.declared.Cause.the-variants as cause
+use Rattle.register.specs.declared.Settings.{Settings}
+use Rattle.register.specs.Machine.{machine}
+use Rattle.slices.specs.declared.TestSlice.{TestSlice}
+use Rattle.slices.specs.Slices.{paired}
+use Rattle.checks.specs.Order.{judged}
+use Rattle.checks.specs.Calls.{windowFaults}
+use Rattle.checks.specs.declared.Verdict.the-variants as verdict
+use Rattle.covering.specs.Covering.{covers, seedOf}
+use Rattle.covering.specs.Single.{lowestOr7, windowSeed, WindowMeaning}
+use Rattle.covering.specs.declared.Seed.the-variants.{Lowest, Refused}
+
+module _ (p : ℕ → Bool) (n : ℕ) where
+  answer-lowest : (o : Option ℕ) → LeastIs p n o → (s : ℕ) → lowestOr7 o ≡ Lowest s → Least p n s
+  unfolding lowestOr7
+  answer-lowest none all s e = absurd (let z : _≡_ {A = ℕ} 0 1 = cc in omega arith)
+  answer-lowest (some g) l s e = let q : g ≡ s = cc in rw (sym q) l
+
+  answer-none : (o : Option ℕ) → LeastIs p n o → (lowestOr7 o ≡ Refused cause.NoSeed) ↔ NoneBelow p n
+  unfolding lowestOr7
+  answer-none none all = (λ e. all, λ a. refl)
+  answer-none (some g) l = (
+    λ e. absurd (let z : _≡_ {A = ℕ} 0 1 = cc in omega arith),
+    λ a. absurd (clash (p g) (l .passes) (a g (l .below))),
+  )
+
+module _ (g : Settings) (masks : List ℕ) (stop : TestSlice) (specified bits : List ℕ) where
+  abbrev p : ℕ → Bool
+  p = covers (machine g masks) stop true (paired specified bits)
+
+  well : judged (windowFaults g masks stop specified bits) ≡ verdict.WellFormed → windowSeed g masks stop specified bits ≡ lowestOr7 (leastBelow p (2 ^ g .cells))
+  unfolding windowSeed seedOf
+  well w = rw (w, windowSeed)
+
+  refusal : (c : Cause) → judged (windowFaults g masks stop specified bits) ≡ verdict.Refused c → windowSeed g masks stop specified bits ≡ Refused c
+  unfolding windowSeed
+  refusal c w = rw (w, windowSeed)
+
+  pub window-means : WindowMeaning g masks stop specified bits (windowSeed g masks stop specified bits)
+  window-means = record {
+    refused = refusal;
+    lowest = λ w s e. answer-lowest p (2 ^ g .cells) (leastBelow p (2 ^ g .cells)) (least-is p (2 ^ g .cells)) s (sym (well w) ∙ e);
+    none = λ w. rw (well w) (answer-none p (2 ^ g .cells) (leastBelow p (2 ^ g .cells)) (least-is p (2 ^ g .cells)));
+  }
