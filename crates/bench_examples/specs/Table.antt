@@ -19,7 +19,7 @@ use Rattle.causes.specs.declared.Written.the-variants as written
 use Rattle.causes.specs.Sheet.{refusalOf}
 use Rattle.causes.specs.Outcome.{Outcome, refuse, fill}
 use Rattle.register.specs.Register.{step, badRegister}
-use Rattle.register.specs.Chains.{slice as sliceOf, badCount, badMask, badChains}
+use Rattle.register.specs.Chains.{slice as chainsSlice, badCount, badMask, badChains}
 use Rattle.register.specs.Machine.{Machine, base, machine}
 use Rattle.slices.specs.declared.TestSlice.{TestSlice}
 use Rattle.slices.specs.Slices.{agrees, shows, paired, badSlice, badSlices, badStop}
@@ -41,6 +41,7 @@ use Rattle.expander.specs.Expanding.{after, walk, totalled, expanding, expandLi
 use Rattle.encoder.specs.Encoding.{seedsOf, planned, encoding, encodeSet, CubesOutcome, stopped, withStop, encodeCubes}
 use Rattle.encoder.specs.declared.Encoded.{Encoded}
 use Rattle.encoder.specs.declared.Encoded.the-variants as encoded
+use Rattle.text.specs.Characters.{isCharacter, specifiedAt, bitAt, inFront, sliceOf}
 use Rattle.bench_examples.specs.Reading.{slice, specifieds, bitses}
 
 pub data Question : Type 0 where
@@ -156,5 +157,5 @@ tolds [] = []
 tolds (r ∷ rs) = r .told ∷ tolds rs
 
 pub starred : answers table ≡ tolds table
-unfolding answers tolds answer refusal states showings of-formed of-seed of-written of-encoded yes digit odd beyond ones onesIn within any leastBelow lastBelow refuse fill step badRegister sliceOf badCount badMask badChains agrees shows paired badSlice badSlices badStop badWindow badSet badCubes badList tests firstOf judged stoppedFaults windowFaults setFaults cubesFaults stopFaults listFaults reach hop ends greedy filter count better choice settle keep steps stopFor stopOr6 stopOf fits quiet covers seedOf before far placed closes seedAt ok lowestOr7 windowSeed slicesOf firstStop ending delivers after walk totalled expanding expandList seedsOf planned encoding encodeSet stopped withStop encodeCubes
+unfolding answers tolds answer refusal states showings of-formed of-seed of-written of-encoded yes digit odd beyond ones onesIn within any leastBelow lastBelow refuse fill step badRegister chainsSlice badCount badMask badChains agrees shows paired badSlice badSlices badStop badWindow badSet badCubes badList tests firstOf judged stoppedFaults windowFaults setFaults cubesFaults stopFaults listFaults reach hop ends greedy filter count better choice settle keep steps stopFor stopOr6 stopOf fits quiet covers seedOf before far placed closes seedAt ok lowestOr7 windowSeed slicesOf firstStop ending delivers after walk totalled expanding expandList seedsOf planned encoding encodeSet stopped withStop encodeCubes isCharacter specifiedAt bitAt inFront sliceOf
 starred = refl

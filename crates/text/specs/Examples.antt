@@ -1,0 +1,166 @@
+-- Worked texts: one table, and one proof over it.
+--     Question     a program and the bytes that it reads, or a call with so many bytes lent
+--     Told         what the program prints, or what the call answers and leaves
+--     answer       what the definitions answer
+--     table        the questions with what is told
+--     worked       the definitions answer what is told, in every row
+use mathlib.Core.Path.{_≡_, refl}
+use mathlib.Core.List.{List, [], _∷_, _++_}
+use Prim.Native.Nat.{ℕ, zero, suc}
+use Prim.Native.String.{String}
+use lib.ListN.{replicate}
+use lib.Count.{ones, onesIn}
+use Rattle.bounded.specs.Bounded.{within, any, leastBelow, lastBelow}
+use Rattle.gf2.specs.Words.{digit, odd, beyond}
+use Rattle.causes.specs.Outcome.{refuse, fill}
+use Rattle.register.specs.Register.{step, badRegister}
+use Rattle.register.specs.Chains.{slice, badCount, badMask, badChains}
+use Rattle.slices.specs.Slices.{agrees, shows, paired, badSlice, badSlices, badStop}
+use Rattle.checks.specs.Lengths.{badSet, badCubes, badList}
+use Rattle.checks.specs.Order.{tests, firstOf, judged}
+use Rattle.checks.specs.Calls.{cubesFaults, listFaults}
+use Rattle.cutting.specs.Greedy.{reach, hop, ends, greedy}
+use Rattle.stop.specs.Steps.{filter, count, better, choice, settle, keep, steps, stopFor}
+use Rattle.covering.specs.Covering.{fits, quiet, covers, seedOf}
+use Rattle.covering.specs.Windows.{before, far, placed, closes, seedAt, ok}
+use Rattle.expander.specs.Run.{slicesOf, firstStop, ending, delivers}
+use Rattle.expander.specs.Expanding.{after, walk, totalled, expanding, expandList}
+use Rattle.encoder.specs.Encoding.{seedsOf, planned, encoding, stopped, withStop, encodeCubes}
+use Rattle.text.specs.Bytes.{bytes, starts, split}
+use Rattle.text.specs.Numbers.{worth, digits, leadingZero, number, glyph, lastDigits, numeral}
+use Rattle.text.specs.Characters.{isCharacter, specifiedAt, bitAt, inFront, sliceOf, character, characters}
+use Rattle.text.specs.Keys.{name, keyOf, rank, same, notation, longest}
+use Rattle.text.specs.Line.{numbered, sliced, valued, formed}
+use Rattle.text.specs.Order.{inOrder, outOfRange, rangeCause, tested, saying, afterChains, moved, mayEnd}
+use Rattle.text.specs.Reading.{causeOf, refusedAt, reading, readingOf}
+use Rattle.text.specs.Said.{numbersFor, slicesFor, lastOr, numberFor, sliceFor, settingsOf}
+use Rattle.text.specs.Writing.{numberLine, numberLines, sliceLine, sliceLines, listText, refusedText}
+use Rattle.text.specs.Programs.{lent, encoded, expanded, replied, encodeReply, expandReply, printed, encodeText, expandText, TextOutcome, answered, called, encodeCall, expandCall}
+use Rattle.text.specs.declared.Answer.{Answer}
+use Rattle.text.specs.declared.Answer.the-variants.{Bytes, Refused}
+
+pub data Question : Type 0 where
+  encode : List ℕ → Question
+  expand : List ℕ → Question
+  encode-into : ℕ → List ℕ → Question
+  expand-into : ℕ → List ℕ → Question
+
+pub data Told : Type 0 where
+  prints : List ℕ → Told
+  leaves : Answer → List ℕ → Told
+
+-- the lines of document 01's register R and its chains, and the text after them
+abbrev R : String → List ℕ
+R s = bytes "cells=3\ntaps=6\nchains=2\nchain=1\nchain=4\n" ++ bytes s
+
+-- the same bytes n times
+abbrev times : ℕ → List ℕ → List ℕ
+times zero l = []
+times (suc n) l = l ++ times n l
+
+-- what n bytes of a lent buffer hold
+abbrev old : ℕ → List ℕ
+old n = replicate n 7
+
+-- ---- what the definitions answer
+
+of-call : TextOutcome → Told
+of-call o = leaves (o .answer) (o .buffer)
+
+answer : Question → Told
+answer (encode s) = prints (encodeText s)
+answer (expand s) = prints (expandText s)
+answer (encode-into n s) = of-call (encodeCall s (old n))
+answer (expand-into n s) = of-call (expandCall s (old n))
+
+-- ---- the table
+
+pub record Row : Type 0 where
+  pub asked : Question
+  pub told : Told
+
+abbrev pub table : List Row
+table =
+    -- document 01's sheet, and its list expanded
+    record { asked = encode (R "depth=2\nslice=10\nslice=x1\nslice=1x\nslice=1x\n"); told = prints (bytes "cells=3\ntaps=6\nchains=2\nchain=1\nchain=4\nstop=0x\nslices=4\nseed=3\nseed=3\n") }
+    ∷ record { asked = expand (R "stop=0x\nslices=4\nseed=3\nseed=3\n"); told = prints (bytes "slice=10\nslice=11\nslice=10\nslice=11\n") }
+    -- out of form: no line, an empty one, no line feed, an unknown key, a space
+    ∷ record { asked = encode (bytes ""); told = prints (bytes "refused=13\nat=1\n") }
+    ∷ record { asked = encode (bytes "\n"); told = prints (bytes "refused=13\nat=1\n") }
+    ∷ record { asked = encode (bytes "cells=3"); told = prints (bytes "refused=13\nat=1\n") }
+    ∷ record { asked = encode (bytes "cell=3\n"); told = prints (bytes "refused=13\nat=1\n") }
+    ∷ record { asked = encode (bytes "cells= 3\n"); told = prints (bytes "refused=13\nat=1\n") }
+    -- no digit, a leading zero, five decimal digits, an upper-case digit, seventeen hexadecimal digits
+    ∷ record { asked = encode (bytes "cells=\n"); told = prints (bytes "refused=13\nat=1\n") }
+    ∷ record { asked = encode (bytes "cells=03\n"); told = prints (bytes "refused=13\nat=1\n") }
+    ∷ record { asked = encode (bytes "cells=10000\n"); told = prints (bytes "refused=13\nat=1\n") }
+    ∷ record { asked = encode (bytes "cells=4\ntaps=A\n"); told = prints (bytes "refused=13\nat=2\n") }
+    ∷ record { asked = encode (bytes "cells=64\ntaps=10000000000000000\n"); told = prints (bytes "refused=13\nat=2\n") }
+    -- a slice of one character or of three for two chains, and another character
+    ∷ record { asked = encode (R "depth=1\nslice=1\n"); told = prints (bytes "refused=13\nat=7\n") }
+    ∷ record { asked = encode (R "depth=1\nslice=1x0\n"); told = prints (bytes "refused=13\nat=7\n") }
+    ∷ record { asked = encode (R "depth=1\nslice=12\n"); told = prints (bytes "refused=13\nat=7\n") }
+    -- out of order: taps first, a third mask, a list for a sheet, a sheet for a list
+    ∷ record { asked = encode (bytes "taps=6\n"); told = prints (bytes "refused=13\nat=1\n") }
+    ∷ record { asked = encode (R "chain=2\n"); told = prints (bytes "refused=13\nat=6\n") }
+    ∷ record { asked = encode (R "stop=0x\n"); told = prints (bytes "refused=13\nat=6\n") }
+    ∷ record { asked = expand (R "depth=2\n"); told = prints (bytes "refused=13\nat=6\n") }
+    -- text that ends before taps, before a mask, before depth, before slices
+    ∷ record { asked = encode (bytes "cells=3\n"); told = prints (bytes "refused=13\nat=2\n") }
+    ∷ record { asked = encode (bytes "cells=3\ntaps=6\nchains=2\nchain=1\n"); told = prints (bytes "refused=13\nat=5\n") }
+    ∷ record { asked = encode (R ""); told = prints (bytes "refused=13\nat=6\n") }
+    ∷ record { asked = expand (R "stop=0x\n"); told = prints (bytes "refused=13\nat=7\n") }
+    -- out of range: cells; taps without the last cell or beyond the cells
+    ∷ record { asked = encode (bytes "cells=0\n"); told = prints (bytes "refused=1\nat=1\n") }
+    ∷ record { asked = encode (bytes "cells=65\n"); told = prints (bytes "refused=1\nat=1\n") }
+    ∷ record { asked = encode (bytes "cells=3\ntaps=3\n"); told = prints (bytes "refused=1\nat=2\n") }
+    ∷ record { asked = encode (bytes "cells=3\ntaps=c\n"); told = prints (bytes "refused=1\nat=2\n") }
+    -- chains; a mask 0 or beyond the cells
+    ∷ record { asked = encode (bytes "cells=64\ntaps=8000000000000000\nchains=0\n"); told = prints (bytes "refused=2\nat=3\n") }
+    ∷ record { asked = encode (bytes "cells=3\ntaps=6\nchains=65\n"); told = prints (bytes "refused=2\nat=3\n") }
+    ∷ record { asked = encode (bytes "cells=3\ntaps=6\nchains=2\nchain=0\n"); told = prints (bytes "refused=2\nat=4\n") }
+    ∷ record { asked = encode (bytes "cells=3\ntaps=6\nchains=2\nchain=1\nchain=8\n"); told = prints (bytes "refused=2\nat=5\n") }
+    -- depth; a stop slice with no specified position; slices
+    ∷ record { asked = encode (R "depth=0\n"); told = prints (bytes "refused=3\nat=6\n") }
+    ∷ record { asked = encode (R "depth=257\n"); told = prints (bytes "refused=3\nat=6\n") }
+    ∷ record { asked = expand (R "stop=xx\n"); told = prints (bytes "refused=5\nat=6\n") }
+    ∷ record { asked = expand (R "stop=0x\nslices=0\n"); told = prints (bytes "refused=3\nat=7\n") }
+    ∷ record { asked = expand (R "stop=0x\nslices=2049\n"); told = prints (bytes "refused=3\nat=7\n") }
+    -- form and order come before range
+    ∷ record { asked = encode (bytes "cells=065\n"); told = prints (bytes "refused=13\nat=1\n") }
+    ∷ record { asked = encode (bytes "cells=3\ncells=65\n"); told = prints (bytes "refused=13\nat=2\n") }
+    -- the 2,049th slice line; the 2,049th seed line out of form; 2,048 seed lines, of which the first seed is refused
+    ∷ record { asked = encode (R "depth=1\n" ++ times 2049 (bytes "slice=xx\n")); told = prints (bytes "refused=3\nat=2055\n") }
+    ∷ record { asked = expand (R "stop=0x\nslices=4\n" ++ (times 2048 (bytes "seed=8\n") ++ bytes "seed=8")); told = prints (bytes "refused=13\nat=2056\n") }
+    ∷ record { asked = expand (R "stop=0x\nslices=4\n" ++ times 2048 (bytes "seed=8\n")); told = prints (bytes "refused=10\nat=0\n") }
+    -- over the whole sheet: no slice line, depth does not divide, slices 0 and 1 of one chain, one of two slices can be cut
+    ∷ record { asked = encode (R "depth=2\n"); told = prints (bytes "refused=3\nat=0\n") }
+    ∷ record { asked = encode (R "depth=2\nslice=10\n"); told = prints (bytes "refused=3\nat=0\n") }
+    ∷ record { asked = encode (bytes "cells=3\ntaps=6\nchains=1\nchain=1\ndepth=1\nslice=0\nslice=1\n"); told = prints (bytes "refused=6\nat=0\n") }
+    ∷ record { asked = encode (R "depth=1\nslice=1x\nslice=01\n"); told = prints (bytes "refused=8\nat=1\n") }
+    -- over the whole list: no seed line, a seed beyond the cells, at the stop, without a stop, another total
+    ∷ record { asked = expand (R "stop=0x\nslices=4\n"); told = prints (bytes "refused=14\nat=0\n") }
+    ∷ record { asked = expand (R "stop=0x\nslices=4\nseed=3\nseed=8\n"); told = prints (bytes "refused=10\nat=1\n") }
+    ∷ record { asked = expand (R "stop=01\nslices=1\nseed=6\n"); told = prints (bytes "refused=11\nat=0\n") }
+    ∷ record { asked = expand (R "stop=01\nslices=1\nseed=0\n"); told = prints (bytes "refused=12\nat=0\n") }
+    ∷ record { asked = expand (R "stop=0x\nslices=4\nseed=3\n"); told = prints (bytes "refused=14\nat=2\n") }
+    -- every line is read before that
+    ∷ record { asked = expand (R "stop=0x\nslices=4\nseed=8\nseed=g\n"); told = prints (bytes "refused=13\nat=9\n") }
+    -- the sheet's list in a buffer with one byte more, and with one byte less
+    ∷ record { asked = encode-into 72 (R "depth=2\nslice=10\nslice=x1\nslice=1x\nslice=1x\n"); told = leaves (Bytes 71) (bytes "cells=3\ntaps=6\nchains=2\nchain=1\nchain=4\nstop=0x\nslices=4\nseed=3\nseed=3\n" ++ old 1) }
+    ∷ record { asked = encode-into 70 (R "depth=2\nslice=10\nslice=x1\nslice=1x\nslice=1x\n"); told = leaves (Refused (record { number = 9; value = 71 })) (old 70) }
+    -- a refused text leaves the buffer as it was
+    ∷ record { asked = expand-into 40 (R "stop=xx\n"); told = leaves (Refused (record { number = 5; value = 6 })) (old 40) }
+    ∷ []
+
+pub answers : List Row → List Told
+answers [] = []
+answers (r ∷ rs) = answer (r .asked) ∷ answers rs
+
+pub tolds : List Row → List Told
+tolds [] = []
+tolds (r ∷ rs) = r .told ∷ tolds rs
+
+pub worked : answers table ≡ tolds table
+unfolding answers tolds answer of-call ones onesIn within any leastBelow lastBelow digit odd beyond refuse fill step badRegister slice badCount badMask badChains agrees shows paired badSlice badSlices badStop badSet badCubes badList tests firstOf judged cubesFaults listFaults reach hop ends greedy filter count better choice settle keep steps stopFor fits quiet covers seedOf before far placed closes seedAt ok slicesOf firstStop ending delivers after walk totalled expanding expandList seedsOf planned encoding stopped withStop encodeCubes starts split worth digits leadingZero number glyph lastDigits numeral isCharacter specifiedAt bitAt inFront sliceOf character characters name keyOf rank same notation longest numbered sliced valued formed inOrder outOfRange rangeCause tested saying afterChains moved mayEnd causeOf refusedAt reading readingOf numbersFor slicesFor lastOr numberFor sliceFor settingsOf numberLine numberLines sliceLine sliceLines listText refusedText lent encoded expanded replied encodeReply expandReply printed encodeText expandText answered called encodeCall expandCall
+worked = refl
