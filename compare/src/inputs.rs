@@ -119,3 +119,24 @@ pub fn damage(random: &mut Random, call: &mut Call) {
         _ => call.seeds = vec![1; [0, 2047, 2048, 2049][random.between(0, 3)]],
     }
 }
+
+/// Damages one part of a call, and leaves it small.
+pub fn damage_lightly(random: &mut Random, call: &mut Call) {
+    let chains = call.masks.len();
+    let place = random.below(call.specified.len().max(1) as u64) as usize;
+    match random.below(10) {
+        0 => call.cells = [0, 65, 66][random.between(0, 2)],
+        1 => call.taps = random.bits(7),
+        2 => call.masks.clear(),
+        3 => call.masks[random.below(chains as u64) as usize] = random.bits(7),
+        4 => {
+            call.specified.clear();
+            call.bits.clear();
+        }
+        5 => drop(call.specified.pop()),
+        6 => drop(call.bits.pop()),
+        7 => call.bits[place] = random.bits(chains + 1),
+        8 => call.specified[place] = random.bits(chains + 1),
+        _ => call.stop = (random.bits(chains + 1), random.bits(chains)),
+    }
+}

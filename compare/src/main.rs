@@ -8,10 +8,12 @@ mod leaves;
 mod library;
 mod random;
 mod report;
+mod sample;
 mod small;
 
 use report::Report;
 use std::io::Write;
+use std::path::Path;
 use std::process::{Command, ExitCode, Stdio};
 
 /// Runs the second program, which is built beside this one, with a standard input.
@@ -32,7 +34,27 @@ fn second_program(word: &str, input: &str) -> Result<String, String> {
     String::from_utf8(done.stdout).map_err(|e| e.to_string())
 }
 
+/// `compare sample ROOT FILE` writes the specification file that states the second program's answers.
+fn sample(root: &str, file: &str) -> ExitCode {
+    match sample::write(Path::new(root), Path::new(file)) {
+        Ok(count) => {
+            println!("{count} answers stated");
+            ExitCode::SUCCESS
+        }
+        Err(why) => {
+            println!("{file} is not written: {why}");
+            ExitCode::FAILURE
+        }
+    }
+}
+
 fn main() -> ExitCode {
+    let words: Vec<String> = std::env::args().skip(1).collect();
+    if let [word, root, file] = &words[..] {
+        if word == "sample" {
+            return sample(root, file);
+        }
+    }
     let mut report = Report::new();
     report.case("bench examples, starred", bench::starred());
     report.case(

@@ -1,0 +1,418 @@
+// The definitions against the second program: a specification file that states the second program's answers on random inputs.
+// The proof checker computes each answer from the definitions of specs/ and refuses the file where one differs.
+
+use crate::inputs::{damage_lightly, lawful};
+use crate::library::Call;
+use crate::random::Random;
+use second::Refused;
+use std::collections::{BTreeMap, BTreeSet};
+use std::fmt::Write;
+use std::fs;
+use std::io;
+use std::path::Path;
+
+/// The crates whose definitions the answers are computed from.
+const CRATES: [&str; 11] = [
+    "bounded", "gf2", "causes", "register", "slices", "checks", "cutting", "stop", "covering",
+    "expander", "encoder",
+];
+
+/// How many answers one statement has.
+const ROWS: usize = 25;
+
+/// The definitions that unfold, as `use` lines, and the names that they have in the file.
+fn definitions(root: &Path) -> io::Result<(String, Vec<String>)> {
+    let mut found: BTreeMap<(String, String), Vec<String>> = BTreeMap::new();
+    for name in CRATES.iter().chain(&["text"]) {
+        let mut files: Vec<_> = fs::read_dir(root.join("crates").join(name).join("specs"))?
+            .filter_map(|entry| entry.ok().map(|entry| entry.path()))
+            .filter(|path| path.extension().is_some_and(|ending| ending == "antt"))
+            .collect();
+        files.sort();
+        for path in files {
+            let module = path
+                .file_stem()
+                .unwrap_or_default()
+                .to_string_lossy()
+                .into_owned();
+            let text = fs::read_to_string(&path)?;
+            let names = text
+                .lines()
+                .filter_map(|line| line.trim().strip_prefix("unfoldable pub "));
+            for word in names.filter_map(|rest| rest.split_whitespace().next()) {
+                found
+                    .entry((name.to_string(), module.clone()))
+                    .or_default()
+                    .push(word.to_string());
+            }
+        }
+    }
+    let mut lines = String::new();
+    let mut taken = BTreeSet::new();
+    for ((name, module), words) in &found {
+        let mut list = Vec::new();
+        for word in words {
+            // a name that an earlier crate has too gets the crate's name in front
+            let own = if taken.contains(word) {
+                format!("{name}-{word}")
+            } else {
+                word.clone()
+            };
+            list.push(if own == *word {
+                own.clone()
+            } else {
+                format!("{word} as {own}")
+            });
+            taken.insert(own);
+        }
+        let _ = writeln!(
+            lines,
+            "use Rattle.{name}.specs.{module}.{{{}}}",
+            list.join(", ")
+        );
+    }
+    Ok((lines, taken.into_iter().collect()))
+}
+
+const HEADER: &str = "-- Answers of the second program on random inputs, against the definitions.
+use mathlib.Core.Path.{_≡_, refl}
+use mathlib.Core.List.{List, [], _∷_}
+use Prim.Native.Nat.{ℕ}
+use lib.Count.{ones, onesIn}
+use Rattle.causes.specs.declared.Cause.the-variants as cause
+use Rattle.causes.specs.declared.Written.the-variants as written
+use Rattle.causes.specs.Outcome.{Outcome}
+use Rattle.register.specs.Machine.{base}
+use Rattle.stop.specs.declared.Formed.{Formed}
+use Rattle.stop.specs.declared.Formed.the-variants as formed
+use Rattle.covering.specs.declared.Seed.{Seed}
+use Rattle.covering.specs.declared.Seed.the-variants as seed
+use Rattle.text.specs.Bytes.{bytes}
+";
+
+/// Questions and answers of one kind.
+struct Table {
+    name: &'static str,
+    kind: &'static str,
+    rows: Vec<(String, String)>,
+}
+
+impl Table {
+    fn print(&self, unfolding: &str, out: &mut String) {
+        for (place, rows) in self.rows.chunks(ROWS).enumerate() {
+            let (asked, told): (Vec<_>, Vec<_>) = rows.iter().cloned().unzip();
+            let name = format!("{}-{place}", self.name);
+            let _ = writeln!(out, "\n{name} : _≡_ {{A = List ({})}}", self.kind);
+            let _ = writeln!(out, "    ({} ∷ [])", asked.join("\n    ∷ "));
+            let _ = writeln!(out, "    ({} ∷ [])", told.join("\n    ∷ "));
+            let _ = writeln!(out, "unfolding {unfolding}\n{name} = refl");
+        }
+    }
+}
+
+fn list(numbers: &[u64]) -> String {
+    let mut text = String::from("(");
+    for number in numbers {
+        let _ = write!(text, "{number} ∷ ");
+    }
+    text + "[])"
+}
+
+fn slice(pair: (u64, u64)) -> String {
+    format!("(record {{ specified = {}; bits = {} }})", pair.0, pair.1)
+}
+
+fn cause(refused: Refused) -> String {
+    let name = [
+        "Register",
+        "Chains",
+        "Lengths",
+        "TestSlice",
+        "StopSlice",
+        "SlicesIn",
+        "NoSeed",
+        "NoCutting",
+        "NoSpace",
+        "SeedBeyond",
+        "SeedAtStop",
+        "SeedEndless",
+        "Line",
+        "Total",
+    ][refused.number as usize - 1];
+    if refused.number < 8 {
+        format!("cause.{name}")
+    } else {
+        format!("(cause.{name} {})", refused.value)
+    }
+}
+
+fn outcome(answer: Result<usize, Refused>, buffer: &[u64]) -> String {
+    let answer = match answer {
+        Ok(count) => format!("written.Count {count}"),
+        Err(refused) => format!("written.Refused {}", cause(refused)),
+    };
+    format!(
+        "(record {{ answer = {answer}; buffer = {} }})",
+        list(buffer)
+    )
+}
+
+fn settings(call: &Call) -> String {
+    format!("(base {} {}) {}", call.cells, call.taps, list(&call.masks))
+}
+
+/// Blanks most of the specified bits, so that more windows have a seed.
+fn thin(random: &mut Random, call: &mut Call) {
+    for (specified, bits) in call.specified.iter_mut().zip(&mut call.bits) {
+        *specified &= random.word() & random.word();
+        *bits &= *specified;
+    }
+}
+
+/// A small call, whole or damaged.
+fn small(random: &mut Random) -> Call {
+    let mut call = lawful(random, 5, 3, 6);
+    if random.one_in(2) {
+        thin(random, &mut call);
+    }
+    if random.one_in(4) {
+        damage_lightly(random, &mut call);
+    }
+    call
+}
+
+fn windows(random: &mut Random, count: usize) -> Table {
+    let rows = (0..count).map(|_| {
+        let call = small(random);
+        let (c, m, s) = (call.cells as u64, &call.masks, call.stop);
+        let told = match second::window_seed(c, call.taps, m, s.0, s.1, &call.specified, &call.bits)
+        {
+            Ok(state) => format!("seed.Lowest {state}"),
+            Err(refused) => format!("seed.Refused {}", cause(refused)),
+        };
+        let lists = format!("{} {}", list(&call.specified), list(&call.bits));
+        (
+            format!("windowSeed {} {} {lists}", settings(&call), slice(s)),
+            told,
+        )
+    });
+    Table {
+        name: "windows",
+        kind: "Seed",
+        rows: rows.collect(),
+    }
+}
+
+fn sets(random: &mut Random, count: usize) -> Table {
+    let rows = (0..count).map(|_| {
+        let call = small(random);
+        let (c, m, s) = (call.cells as u64, &call.masks, call.stop);
+        let lent = vec![77; random.between(0, 4)];
+        let mut out = lent.clone();
+        let answer = second::encode_set(
+            c,
+            call.taps,
+            m,
+            s.0,
+            s.1,
+            &call.specified,
+            &call.bits,
+            &mut out,
+        );
+        let lists = format!(
+            "{} {} {}",
+            list(&call.specified),
+            list(&call.bits),
+            list(&lent)
+        );
+        (
+            format!("encodeSet {} {} {lists}", settings(&call), slice(s)),
+            outcome(answer, &out),
+        )
+    });
+    Table {
+        name: "sets",
+        kind: "Outcome",
+        rows: rows.collect(),
+    }
+}
+
+fn lists(random: &mut Random, count: usize) -> Table {
+    let rows = (0..count).map(|_| {
+        let mut call = small(random);
+        if random.one_in(2) {
+            call.slices = random.between(1, 12);
+        }
+        if random.one_in(6) {
+            call.seeds.push(random.bits(6));
+        }
+        let (c, m, s) = (call.cells as u64, &call.masks, call.stop);
+        let lent = vec![77; random.between(0, 14)];
+        let mut out = lent.clone();
+        let answer = second::expand(
+            c,
+            call.taps,
+            m,
+            s.0,
+            s.1,
+            call.slices as u64,
+            &call.seeds,
+            &mut out,
+        );
+        let rest = format!("{} {} {}", call.slices, list(&call.seeds), list(&lent));
+        (
+            format!("expandList {} {} {rest}", settings(&call), slice(s)),
+            outcome(answer, &out),
+        )
+    });
+    Table {
+        name: "lists",
+        kind: "Outcome",
+        rows: rows.collect(),
+    }
+}
+
+fn stops(random: &mut Random, count: usize) -> Table {
+    let rows = (0..count).map(|_| {
+        let mut call = lawful(random, 5, 5, 8);
+        if random.one_in(4) {
+            damage_lightly(random, &mut call);
+        }
+        let chains = call.masks.len();
+        let told = match second::stop_slice(chains as u64, &call.specified, &call.bits) {
+            Ok(stop) => format!("formed.Stop {}", slice(stop)),
+            Err(refused) => format!("formed.Refused {}", cause(refused)),
+        };
+        (
+            format!(
+                "stopOf {chains} {} {}",
+                list(&call.specified),
+                list(&call.bits)
+            ),
+            told,
+        )
+    });
+    Table {
+        name: "stops",
+        kind: "Formed",
+        rows: rows.collect(),
+    }
+}
+
+/// The lines of a sheet.
+fn sheet(random: &mut Random, call: &Call) -> Vec<String> {
+    let chains = call.masks.len();
+    let mut lines = vec![
+        format!("cells={}", call.cells),
+        format!("taps={:x}", call.taps),
+        format!("chains={chains}"),
+    ];
+    lines.extend(call.masks.iter().map(|mask| format!("chain={mask:x}")));
+    let depth = if random.one_in(8) {
+        random.between(0, 300)
+    } else {
+        call.depth
+    };
+    lines.push(format!("depth={depth}"));
+    for (specified, bits) in call.specified.iter().zip(&call.bits) {
+        lines.push(format!(
+            "slice={}",
+            second::slice_text(chains, *specified, *bits)
+        ));
+    }
+    lines
+}
+
+/// The lines of a seed list.
+fn seed_list(random: &mut Random, call: &Call) -> Vec<String> {
+    let mut lines = sheet(random, call);
+    lines.truncate(3 + call.masks.len());
+    let (specified, bits) = call.stop;
+    lines.push(format!(
+        "stop={}",
+        second::slice_text(call.masks.len(), specified, bits)
+    ));
+    lines.push(format!("slices={}", random.between(0, 12)));
+    lines.extend(call.seeds.iter().map(|seed| format!("seed={seed:x}")));
+    lines
+}
+
+/// A text of these lines, whole or with a line or a byte damaged.
+fn text(random: &mut Random, mut lines: Vec<String>) -> String {
+    let place = random.below(lines.len() as u64) as usize;
+    match random.below(8) {
+        0 => drop(lines.remove(place)),
+        1 => lines.insert(place, lines[place].clone()),
+        2 => lines.truncate(place),
+        _ => {}
+    }
+    let mut text: Vec<u8> = lines
+        .iter()
+        .flat_map(|line| line.bytes().chain([b'\n']))
+        .collect();
+    if !text.is_empty() && random.one_in(3) {
+        let place = random.below(text.len() as u64) as usize;
+        let bytes = b"0123456789abcdefxgF=\n -";
+        match random.below(3) {
+            0 => drop(text.remove(place)),
+            1 => text.insert(place, bytes[random.below(bytes.len() as u64) as usize]),
+            _ => text[place] = bytes[random.below(bytes.len() as u64) as usize],
+        }
+    }
+    String::from_utf8(text).expect("the bytes are ASCII")
+}
+
+fn quoted(text: &str) -> String {
+    format!("bytes \"{}\"", text.replace('\n', "\\n"))
+}
+
+fn texts(random: &mut Random, count: usize) -> Table {
+    let rows = (0..count).map(|place| {
+        let mut call = lawful(random, 5, 3, 6);
+        if random.one_in(2) {
+            thin(random, &mut call);
+        }
+        let (word, lines) = if place % 2 == 0 {
+            ("encodeText", sheet(random, &call))
+        } else if place % 4 == 1 {
+            ("expandText", seed_list(random, &call))
+        } else {
+            let input = sheet(random, &call).join("\n") + "\n";
+            let printed = second::encode_text(input.as_bytes());
+            let printed = String::from_utf8(printed).expect("printed text is ASCII");
+            ("expandText", printed.lines().map(String::from).collect())
+        };
+        let input = text(random, lines);
+        let printed = match word {
+            "encodeText" => second::encode_text(input.as_bytes()),
+            _ => second::expand_text(input.as_bytes()),
+        };
+        let printed = String::from_utf8(printed).expect("printed text is ASCII");
+        (format!("{word} ({})", quoted(&input)), quoted(&printed))
+    });
+    Table {
+        name: "texts",
+        kind: "List ℕ",
+        rows: rows.collect(),
+    }
+}
+
+/// Writes the file and answers how many answers it states.
+pub fn write(root: &Path, file: &Path) -> io::Result<usize> {
+    let mut random = Random(9);
+    let tables = [
+        windows(&mut random, 500),
+        sets(&mut random, 400),
+        lists(&mut random, 400),
+        stops(&mut random, 400),
+        texts(&mut random, 800),
+    ];
+    let (lines, names) = definitions(root)?;
+    let unfolding = format!("ones onesIn {}", names.join(" "));
+    let mut out = format!("{HEADER}{lines}");
+    for table in &tables {
+        table.print(&unfolding, &mut out);
+    }
+    fs::write(file, out)?;
+    Ok(tables.iter().map(|table| table.rows.len()).sum())
+}
