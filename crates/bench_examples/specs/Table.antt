@@ -2,7 +2,8 @@
 --     Question     what is asked, in the words of the examples
 --     Told         what is told: numbers, a slice, a list with its stop slice, or a refusal with its number and value
 --     answer       what the definitions answer
---     table        the questions with what document 01 tells
+--     Row, table   the questions with what document 01 tells
+--     answers, tolds     the two columns of a table
 --     starred      the definitions answer what document 01 tells, in every row
 use mathlib.Core.Path.{_≡_, refl}
 use mathlib.Core.Bool.{Bool, true, false}

@@ -4,7 +4,7 @@
 --     both, and-yes     a conjunction is true, and its parts are
 --     either, or-left, or-right     the same of a disjunction
 --     neither        a disjunction is false, and its parts are
---     within-yes, within-no     what "low to high" says
+--     within-yes, yes-within, below-within, above-within     what "low to high" says
 -- Assumes nothing.
 use mathlib.Core.Path.{_≡_, refl}
 use mathlib.Core.Logic.{_⊎_, inl, inr}

@@ -1,6 +1,6 @@
 -- Laws of the places of windows.
 --     far-mono, far-le       the farthest end rises with the start and stays within the set
---     placed-parts           what a placed window is
+--     placed-parts, parts-placed     what a placed window is
 --     placed-base            in the base: 1 to 256 slices, within the set
 --     suffix-placed          the rest of a placed window is placed
 --     part-cons              the first slice of a part, and the rest

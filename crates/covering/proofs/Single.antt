@@ -1,4 +1,4 @@
--- The answer for a window given singly means what it says.
+-- The answer for a window given singly means what it says (window-means).
 -- Assumes nothing.
 use mathlib.Core.Path.{_≡_, refl, sym, _∙_}
 use mathlib.Core.Logic.{_↔_}

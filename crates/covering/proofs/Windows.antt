@@ -1,6 +1,7 @@
 -- The windows of a set are as the theorem about cuttings asks, for every setting whose stop is steady between edges.
 --     ok-window, window-ok     the test says that some state covers the window
 --     tails                    the rest of a covered part is covered
+--     set-bounds               the windows go forward and stay within the set
 --     set-windows              the windows go forward, stay within the set, and are kept by suffixes
 --     rules-steady             document 01's rules have one stop
 -- Assumes nothing.

@@ -1,4 +1,4 @@
--- The state 0 is a lawful state; its slices are all alike, so it covers nothing in the base (document 01, "Register and chains").
+-- The state 0 is a lawful state; its slices are all alike, so it covers nothing in the base (document 01, "Register and chains"): zero-covers-nothing.
 -- Assumes nothing.
 use mathlib.Core.Path.{_≡_}
 use mathlib.Core.Bool.{true, not}

@@ -1,4 +1,5 @@
 -- The seed of a window given singly (document 01, "Covering and cutting" and its refusal sheet: 1 to 5, then 7).
+--     lowestOr7 o     the lowest covering state, or cause 7
 --     windowSeed g masks stop specified bits     the answer of the call
 --     WindowMeaning g masks stop specified bits r     what the answer r says of the window
 use mathlib.Core.Bool.{true}

@@ -1,12 +1,15 @@
 -- The windows of a set (document 01, "Covering and cutting"), by their places: the window from i to k is the slices i .. k - 1 of a set of n.
 --     part i k set             the slices i .. k - 1
+--     before edges i n         the least of n and the edges above i
 --     far R n i                the farthest end of a window from i: the least of n, i + limit and the edges above i
 --     placed R n i k           1 to limit slices, within the set, across no edge
 --     closes R n k             a window that ends at k closes with its stop
 --     coversPart M R set i k s the state s covers the slices from i to k, under the stop live at i
 --     CoveredBy M R set i k s  from i to k is a window, and the state s covers it
 --     Window M R set i k       some state covers it
---     ok M R set i k           the same as a test
+--     seedAt M R set i k       the seed of the slices from i to k, or none
+--     found o                  there is one
+--     ok M R set i k           some state covers it, as a test
 --     Steady R n               one stop is live between two edges
 use mathlib.Core.Path.{_≡_}
 use mathlib.Core.Bool.{Bool, true, false, not, _&&_}
@@ -23,7 +26,6 @@ use Rattle.covering.specs.Rules.{Rules}
 abbrev pub part {ℓ} : {A : Type ℓ} → ℕ → ℕ → List A → List A
 part i k l = take (k - i) (drop i l)
 
--- the least of n and the edges above i
 unfoldable pub before : List ℕ → ℕ → ℕ → ℕ
 before [] i n = n
 before (e ∷ es) i n = elim (ltb i e) [ true ↦ min e (before es i n) | false ↦ before es i n ]

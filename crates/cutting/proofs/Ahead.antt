@@ -1,4 +1,4 @@
--- Ahead: after any number of windows the greedy cutting is at least as far as any other cutting of the set or of a start.
+-- After any number of windows (ahead) the greedy cutting is at least as far as any other cutting of the set or of a start.
 -- Assumes nothing.
 use mathlib.Core.Path.{_≡_, refl}
 use mathlib.Core.Logic.{_⊎_, inl, inr}

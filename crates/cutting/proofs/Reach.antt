@@ -1,5 +1,6 @@
 -- One greedy window.
---     reach-cases     no window starts at a, and its reach is a; or its reach is its greatest end
+--     Stops, Goes     no window starts at a, and its reach is a; or its reach is its greatest end
+--     reach-cases     one of the two
 --     reach-le, reach-top, reach-ok, reach-in, reach-end     what follows, fact by fact
 --     reach-mono      from a later place one comes at least as far: the only use of suffixes
 -- Assumes nothing.

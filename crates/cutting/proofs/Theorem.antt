@@ -1,4 +1,5 @@
 -- The theorem: the greedy cutting has the fewest windows, is ahead after any number of them, and is stuck only where there is no cutting. It names neither limit, nor edges, nor closing: those are in ok.
+--     hop-ahead        as many greedy windows as another cutting has come at least as far
 --     fewest-ends      no cutting of the whole has fewer windows
 --     farthest         what can be cut ends at or before the place where greedy stops
 --     never-stuck      where there is a cutting of the whole, greedy comes to its end
@@ -22,7 +23,6 @@ use Rattle.cutting.proofs.Hops.{hop-in, hop-stops, ends-cut}
 use Rattle.cutting.proofs.Ahead.{ahead}
 
 module _ (ok : ℕ → ℕ → Bool) (n : ℕ) (w : Windows ok n) where
-  -- as many greedy windows as another cutting has come at least as far
   pub hop-ahead : {a b : ℕ} {es : List ℕ} (g : ℕ) → Cuts ok a es b → a ≤ g → b ≤ hop ok n (length es) g
   unfolding hop
   hop-ahead g no-window h = h

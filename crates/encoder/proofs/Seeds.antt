@@ -1,6 +1,7 @@
 -- The seeds of the greedy cutting cover it, and between cuttings by the test of a window and cuttings by covered windows.
 --     seed-covers        a window that passes the test is covered by its seed
 --     seeds-cover        the seeds of a cutting cover it
+--     seeds-length       there is one for each window
 --     cuts-windows, windows-cuts, covering-cuts     between the two kinds of cuttings
 -- Assumes nothing.
 use mathlib.Core.Path.{_≡_, refl, ap}

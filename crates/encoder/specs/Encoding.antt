@@ -1,8 +1,9 @@
 -- The encoding of a set (document 01, "Covering and cutting", and its refusal sheet: 1 to 5, then 6 or 8, then 9).
 --     seedsOf M R set a ends      the seeds of the windows from the place a on
---     encoding M R set out        the answer and the buffer that the encoding of a set leaves: the seeds of its greedy cutting, cause 8 with the place where it is stuck, or cause 9
+--     planned M R set out p       the outcome of a plan: the seeds of its windows, cause 8 with the place where it is stuck, or cause 9
+--     encoding M R set out        the answer and the buffer that the encoding of a set leaves, by its greedy cutting
 --     encodeSet g masks stop specified bits out     the same of the whole call, with the stop slice handed in
---     CubesOutcome, withStop      an answer that carries the stop slice too
+--     CubesOutcome, stopped, withStop      an answer that carries the stop slice too
 --     encodeCubes g masks depth specified bits out     the same of the whole call for cubes of depth slices, with the stop slice of the steps
 use mathlib.Core.Option.{none, some, Option·getD}
 use mathlib.Core.List.{List, [], _∷_}

@@ -2,6 +2,7 @@
 --     Delivers set expanded      an expanding is accepted where there is space, with the set's total, and slice i agrees with test slice i; `expanded` gives its outcome for a lent buffer
 --     Shortest M R set seeds     the seeds cover a cutting of the set, and no list of states that covers any cutting of it is shorter; after any number of seeds no other list has delivered more
 --     Uncut M R set g            the set has no cutting, and its longest start that can be cut has g slices
+--     Listed M R set n           the list that enough space gives has n seeds
 --     Meaning M R set out o      what the outcome o says of the set
 --     SetMeaning .. o            what the outcome o of the whole call says
 use mathlib.Core.Path.{_≡_}
@@ -44,7 +45,6 @@ pub record Uncut (M : Machine) (R : Rules) (set : List TestSlice) (g : ℕ) : Ty
   pub cuts : Cutting (Window M R set) 0 upto g
   pub longest : (b : ℕ) (es : List ℕ) → Cutting (Window M R set) 0 es b → b ≤ g
 
--- The list that space would have got has n seeds.
 pub record Listed (M : Machine) (R : Rules) (set : List TestSlice) (n : ℕ) : Type 0 where
   pub seeds : List ℕ
   pub shortest : Shortest M R set seeds

@@ -1,6 +1,9 @@
 -- The expanding of a seed list (document 01, under its refusal sheet: "In expanding, seeds are tested one after another by 10, 11, 12; then 14, then 9").
 --     Walk                                  the slices of all seeds, or the cause of the first refused seed
+--     after vs w                            the slices vs, then those of the walk w
+--     isLast ss                             no seed is left behind this one
 --     walk M R n place done seeds           the seeds from that place on, when done of n slices are delivered
+--     totalled n out w                      the outcome of a walk: its cause, 14 where the total differs, or the slices, or 9
 --     expanding M R n seeds out             the answer and the buffer that expanding leaves
 --     expandList g masks stop n seeds out     the same of the whole call: causes 1, 2, 3 and 5 come first
 use mathlib.Core.Bool.{Bool, true, false, _&&_}

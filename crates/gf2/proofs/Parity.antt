@@ -1,4 +1,5 @@
 -- Laws of parity: `odd` is below 2, symmetric, and linear in the state and in the mask.
+--     odd-lt, odd-comm, odd-zero-l, odd-zero-r     below 2, symmetric, 0 where nothing is read
 --     odd-low       the lowest cell, and the rest
 --     odd-xor       linear in the mask
 --     xor-odd       linear in the state

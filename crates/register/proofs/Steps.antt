@@ -3,7 +3,8 @@
 --     step-first, step-other     cell 0 gets the feedback, each other cell what the cell one lower held: document 01's rule, cell by cell
 --     pull-law, pulls-law        what a mask reads after the steps is what the pulled-back mask reads before them
 --     step-zero                  the state 0 steps to itself
---     step-narrow, step-wide     the step on a 64-bit word, of fewer than 64 cells and of 64
+--     pull-below                 a mask pulled back stays below 2 ^ cells
+--     step-fits, step-narrow, step-wide, one-shifted     the step on a 64-bit word, of fewer than 64 cells and of 64
 -- Assumes nothing.
 use mathlib.Core.Path.{_≡_, refl, sym, ap, ap₂, _∙_}
 use Prim.Native.Nat.{ℕ, zero, suc, _+_, _-_, _*_, _/_, _%_, _^_, _≤_, _<_, min}

@@ -2,6 +2,7 @@
 --     longestWindow             the longest window of the base, in slices
 --     base cells taps           the settings of the base: windows of up to 256 slices
 --     Machine                   what covering, cutting and expanding see of register and chains: the states are the numbers below `states`; the slice and the next state of each
+--     machineWith               the machine of a register, its chains and its inverted chains
 --     machine g masks           the machine of a call's settings and chains
 use mathlib.Core.List.{List}
 use Prim.Native.Nat.{ℕ, _^_}

@@ -1,5 +1,6 @@
 -- Causes 4 and 5, as the code tests them, one test after the other.
 --     slice-unspecified, slice-beyond, slice-last     a test slice
+--     sliceAt, Left                                   the test slice at a place; what is left from a place on decides
 --     slices-unequal, slices-start, slices-hit, slices-miss, slices-end     cause 4, a loop over the test slices
 --     slices-equal                                    lists that cause 4 does not refuse are equally long
 --     stop-empty, stop-formed                         cause 5
@@ -42,11 +43,9 @@ module _ (chains : ℕ) (t : TestSlice) where
   unfolding badStop
   stop-formed h = rw (ne-eqb (t .specified) 0 h)
 
--- the test slice at a place of the two lists
 abbrev pub sliceAt : List ℕ → List ℕ → ℕ → TestSlice
 sliceAt ps bs i = record { specified = getD ps i 0; bits = getD bs i 0 }
 
--- what is left from the place i on decides
 abbrev pub Left : ℕ → List ℕ → List ℕ → ℕ → Type 0
 Left chains ps bs i = badSlices chains ps bs ≡ any (badSlice chains) (drop i (paired ps bs))
 

@@ -1,7 +1,7 @@
 -- The choice of a step is document 01's: the greatest count, on a tie the leftmost position, and there the 0s before the 1s.
 --     Chosen stop counts n q     of the choices below n at unset positions, q has the greatest count, and each lower one has less
---     choice-is                  the choice is so, or every position is set
---     zero-leftmost              where the greatest count is 0, the choice is the leftmost unset position with the bit 0, which becomes 1
+--     ChoiceIs, choice-is        the choice is so, or every position is set
+--     zero-bit, zero-leftmost    where the greatest count is 0, the choice is the leftmost unset position with the bit 0, which becomes 1
 --     zero-empties               and all slices still in go out
 -- Assumes nothing.
 use mathlib.Core.Path.{_≡_, refl}

@@ -1,4 +1,5 @@
 -- The call for the stop slice of a set (document 01, its refusal sheet): causes 2, 3, 4, then 6.
+--     stopOr6 o     the stop slice, or cause 6
 --     stopOf chains specified bits     the answer of the call
 use mathlib.Core.Option.{Option, none, some}
 use mathlib.Core.List.{List}

@@ -1,10 +1,13 @@
 -- The stop slice steps (document 01, "Stop slice steps", after document 004, III.A). Positions count from the left, from 0: position p has weight 2 ^ p.
 --     has p b t             the test slice t has the bit b at position p
 --     isSet p stop          position p of the stop slice is set
+--     filter p xs           the members of a list that pass a test, in order
 --     count q xs            how many of the slices xs have the bit q % 2 at the position q / 2: the choice q
---     choice stop counts n      of the choices below n at unset positions, the one with the greatest count; on a tie the lowest: the leftmost position, and there the 0s before the 1s
+--     better counts q o     q against the best of the lower choices: it must have a greater count
+--     choice stop counts n  of the choices below n at unset positions, the one with the greatest count; on a tie the lowest: the leftmost position, and there the 0s before the 1s
 --     settle q stop         the position of the choice is set to the complement of the counted bit
 --     keep q xs             the slices that have the counted bit or x there are removed
+--     isEmpty xs            no slice is in
 --     steps d chains stop xs     the stop slice when at most d positions more are set and xs are the slices still in; none where slices stay in
 --     stopFor chains set    the stop slice of a set
 use mathlib.Core.Bool.{Bool, true, false, _&&_}
@@ -22,7 +25,6 @@ has p b t = eqb (digit (t .specified) p) 1 && eqb (digit (t .bits) p) b
 abbrev pub isSet : ℕ → TestSlice → Bool
 isSet p stop = eqb (digit (stop .specified) p) 1
 
--- the members of a list that pass a test, in order
 unfoldable pub filter : (TestSlice → Bool) → List TestSlice → List TestSlice
 filter p [] = []
 filter p (x ∷ xs) = elim (p x) [ true ↦ x ∷ filter p xs | false ↦ filter p xs ]
@@ -30,7 +32,6 @@ filter p (x ∷ xs) = elim (p x) [ true ↦ x ∷ filter p xs | false ↦ filter
 unfoldable pub count : ℕ → List TestSlice → ℕ
 count q xs = length (filter (has (q / 2) (q % 2)) xs)
 
--- q against the best of the lower choices: it must have a greater count
 unfoldable pub better : (ℕ → ℕ) → ℕ → Option ℕ → Option ℕ
 better counts q none = some q
 better counts q (some r) = elim (ltb (counts r) (counts q)) [ true ↦ some q | false ↦ some r ]

@@ -2,7 +2,8 @@
 --     Question     a program and the bytes that it reads, or a call with so many bytes lent
 --     Told         what the program prints, or what the call answers and leaves
 --     answer       what the definitions answer
---     table        the questions with what is told
+--     Row, table   the questions with what is told
+--     answers, tolds     the two columns of a table
 --     worked       the definitions answer what is told, in every row
 use mathlib.Core.Path.{_≡_, refl}
 use mathlib.Core.List.{List, [], _∷_, _++_}
