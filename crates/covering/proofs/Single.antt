@@ -1,7 +1,7 @@
 -- The answer for a window given singly means what it says (window-means).
 -- Assumes nothing.
 use mathlib.Core.Path.{_≡_, refl, sym, _∙_}
-use mathlib.Core.Logic.{_↔_}
+use mathlib.Core.Logic.{_↔_, _⊎_, inl, inr}
 use mathlib.Core.Bool.{Bool, true}
 use mathlib.Core.Option.{Option, none, some}
 use mathlib.Core.List.{List}
@@ -22,6 +22,11 @@ use Rattle.checks.specs.declared.Verdict.the-variants as verdict
 use Rattle.covering.specs.Covering.{covers, seedOf}
 use Rattle.covering.specs.Single.{lowestOr7, windowSeed, WindowMeaning}
 use Rattle.covering.specs.declared.Seed.the-variants.{Lowest, Refused}
+
+answer-cases : (o : Option ℕ) → ((s : ℕ) × (lowestOr7 o ≡ Lowest s)) ⊎ (lowestOr7 o ≡ Refused cause.NoSeed)
+unfolding lowestOr7
+answer-cases none = inr refl
+answer-cases (some s) = inl (s, refl)
 
 module _ (p : ℕ → Bool) (n : ℕ) where
   answer-lowest : (o : Option ℕ) → LeastIs p n o → (s : ℕ) → lowestOr7 o ≡ Lowest s → Least p n s
@@ -52,6 +57,7 @@ module _ (g : Settings) (masks : List ℕ) (stop : TestSlice) (specified bits : 
   pub window-means : WindowMeaning g masks stop specified bits (windowSeed g masks stop specified bits)
   window-means = record {
     refused = refusal;
+    answered = λ w. rw (well w) (answer-cases (leastBelow p (2 ^ g .cells)));
     lowest = λ w s e. answer-lowest p (2 ^ g .cells) (leastBelow p (2 ^ g .cells)) (least-is p (2 ^ g .cells)) s (sym (well w) ∙ e);
     none = λ w. rw (well w) (answer-none p (2 ^ g .cells) (leastBelow p (2 ^ g .cells)) (least-is p (2 ^ g .cells)));
   }

@@ -6,7 +6,7 @@ use mathlib.Core.Bool.{true}
 use mathlib.Core.Option.{Option, none, some}
 use mathlib.Core.List.{List}
 use mathlib.Core.Path.{_≡_}
-use mathlib.Core.Logic.{_↔_}
+use mathlib.Core.Logic.{_↔_, _⊎_}
 use Prim.Native.Nat.{ℕ, _^_}
 use Rattle.bounded.specs.Bounded.{Least, NoneBelow}
 use Rattle.causes.specs.declared.Cause.{Cause}
@@ -35,5 +35,6 @@ windowSeed g masks stop specified bits = elim (judged (windowFaults g masks stop
 -- The first of causes 1 to 5 that holds; otherwise 7 exactly when no state covers the window, and else the lowest covering state.
 pub record WindowMeaning (g : Settings) (masks : List ℕ) (stop : TestSlice) (specified bits : List ℕ) (r : Seed) : Type 0 where
   pub refused : (c : Cause) → judged (windowFaults g masks stop specified bits) ≡ verdict.Refused c → r ≡ Refused c
+  pub answered : judged (windowFaults g masks stop specified bits) ≡ verdict.WellFormed → ((s : ℕ) × (r ≡ Lowest s)) ⊎ (r ≡ Refused cause.NoSeed)
   pub lowest : judged (windowFaults g masks stop specified bits) ≡ verdict.WellFormed → (s : ℕ) → r ≡ Lowest s → Least (covers (machine g masks) stop true (paired specified bits)) (2 ^ g .cells) s
   pub none : judged (windowFaults g masks stop specified bits) ≡ verdict.WellFormed → (r ≡ Refused cause.NoSeed) ↔ NoneBelow (covers (machine g masks) stop true (paired specified bits)) (2 ^ g .cells)

@@ -55,12 +55,14 @@ module _ (M : Machine) (R : Rules) (set : List TestSlice) where
     -- the seeds of a shortest list are written, or there is no space for them
     listed : (seeds : List ℕ) → Shortest M R set seeds → Full seeds out (fill seeds out) ⊎ Short seeds out (fill seeds out) → Meaning M R set out (fill seeds out)
     listed seeds l (inl f) = record {
+      answered = inl (length seeds, f .answer);
       accepted = λ m e. (let c : length seeds ≡ m = cc in (record { seeds = seeds; shortest = l; count = c }, rw (sym c) (f .buffer)));
       uncut = λ g e. absurd (let z : _≡_ {A = ℕ} 0 1 = cc in omega arith);
       noSpace = λ m e. absurd (let z : _≡_ {A = ℕ} 0 1 = cc in omega arith);
       exactly = (λ r. absurd (let e = r .1 in let z : _≡_ {A = ℕ} 0 1 = cc in omega arith), λ none. absurd (none (l .ends) (covering-cutting (CoveredBy M R set) (l .covers))));
     }
     listed seeds l (inr f) = record {
+      answered = inr (inr (length seeds, f .answer));
       accepted = λ m e. absurd (let z : _≡_ {A = ℕ} 0 1 = cc in omega arith);
       uncut = λ g e. absurd (let z : _≡_ {A = ℕ} 0 1 = cc in omega arith);
       noSpace = λ m e. (let c : length seeds ≡ m = cc in (record { seeds = seeds; shortest = l; count = c }, omega (arith, f .room), f .buffer));
@@ -70,6 +72,7 @@ module _ (M : Machine) (R : Rules) (set : List TestSlice) where
     refused : (g : ℕ) → Uncut M R set g → Meaning M R set out (refuse (cause.NoCutting g) out)
     unfolding refuse
     refused g u = record {
+      answered = inr (inl (g, refl));
       accepted = λ m e. absurd (let z : _≡_ {A = ℕ} 0 1 = cc in omega arith);
       uncut = λ h e. (let c : g ≡ h = cc in (rw (sym c) u, refl));
       noSpace = λ m e. absurd (let z : _≡_ {A = ℕ} 0 1 = cc in omega arith);

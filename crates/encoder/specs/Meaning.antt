@@ -6,7 +6,7 @@
 --     Meaning M R set out o      what the outcome o says of the set
 --     SetMeaning .. o            what the outcome o of the whole call says
 use mathlib.Core.Path.{_≡_}
-use mathlib.Core.Logic.{_↔_}
+use mathlib.Core.Logic.{_↔_, _⊎_}
 use mathlib.Core.Bool.{true}
 use mathlib.Core.List.{List, _++_}
 use Prim.Native.Nat.{ℕ, _≤_, _<_}
@@ -51,6 +51,8 @@ pub record Listed (M : Machine) (R : Rules) (set : List TestSlice) (n : ℕ) : T
   pub count : length seeds ≡ n
 
 pub record Meaning (M : Machine) (R : Rules) (set : List TestSlice) (out : List ℕ) (o : Outcome) : Type 0 where
+  -- one of three: accepted, 8 or 9
+  pub answered : ((n : ℕ) × (o .answer ≡ Count n)) ⊎ (((g : ℕ) × (o .answer ≡ Refused (cause.NoCutting g))) ⊎ ((n : ℕ) × (o .answer ≡ Refused (cause.NoSpace n))))
   -- accepted: the seeds stand in the buffer, and every other entry is as it was
   pub accepted : (n : ℕ) → o .answer ≡ Count n → (l : Listed M R set n) × (o .buffer ≡ l .seeds ++ drop n out)
   -- cause 8: whatever the space
