@@ -1,6 +1,6 @@
 // Random calls: lawful ones, and the same with one or more parts damaged.
 
-use crate::library::Call;
+use crate::call::Call;
 use crate::random::Random;
 
 fn lawful_taps(random: &mut Random, cells: usize) -> u64 {

@@ -1,7 +1,8 @@
 // The proved leaves against the second program: step, slice, agreeing, showing, and the checks behind causes 1 to 5.
 
+use crate::call::Call;
 use crate::inputs::{damage, lawful};
-use crate::library::{self, Call};
+use crate::library;
 use crate::random::Random;
 use crate::report::{same, Outcome};
 
@@ -82,65 +83,30 @@ fn number<T>(answer: Result<T, second::Refused>) -> usize {
 }
 
 fn compare(call: &Call) -> Result<usize, String> {
-    let Call {
-        cells,
-        taps,
-        masks,
-        stop,
-        depth,
-        specified,
-        bits,
-        slices,
-        seeds,
-    } = call;
-    let cells = *cells as u64;
-    let window = second::window_seed(cells, *taps, masks, stop.0, stop.1, specified, bits);
     same(
         &format!("check of the window {call:x?}"),
         call.check_window(),
-        number(window),
+        number(call.window_seed()),
     )?;
-    let set = second::encode_set(
-        cells,
-        *taps,
-        masks,
-        stop.0,
-        stop.1,
-        specified,
-        bits,
-        &mut [],
-    );
     same(
         &format!("check of the set {call:x?}"),
         call.check_set(),
-        number(set),
+        number(call.encode_set(&mut [])),
     )?;
-    let cubes = second::encode_cubes(cells, *taps, masks, *depth as u64, specified, bits, &mut []);
     same(
         &format!("check of the cubes {call:x?}"),
         call.check_cubes(),
-        number(cubes),
+        number(call.encode_cubes(&mut [])),
     )?;
-    let formed = second::stop_slice(masks.len() as u64, specified, bits);
     same(
         &format!("check for a stop slice {call:x?}"),
-        call.check_stop(masks.len()),
-        number(formed),
+        call.check_stop(),
+        number(call.stop_slice()),
     )?;
-    let list = second::expand(
-        cells,
-        *taps,
-        masks,
-        stop.0,
-        stop.1,
-        *slices as u64,
-        seeds,
-        &mut [],
-    );
     same(
         &format!("check of the list {call:x?}"),
         call.check_list(),
-        number(list),
+        number(call.expand(&call.seeds, &mut [])),
     )?;
     Ok(5)
 }

@@ -1,4 +1,6 @@
-// The proved library's entries, as safe functions. The declarations follow crates/seeds/src/lib.rt: a slice is a pointer and a length.
+// The proved library's entries, as safe functions and methods of a call. The declarations follow crates/seeds/src/lib.rt: a slice is a pointer and a length.
+
+use crate::call::Call;
 
 extern "C" {
     fn seeds_step(cells: usize, taps: u64, state: u64) -> u64;
@@ -57,20 +59,6 @@ extern "C" {
         slices: usize,
         seeds: usize,
     ) -> usize;
-}
-
-/// What a call hands in; each kind of call takes the parts that it has.
-#[derive(Clone, Debug)]
-pub struct Call {
-    pub cells: usize,
-    pub taps: u64,
-    pub masks: Vec<u64>,
-    pub stop: (u64, u64),
-    pub depth: usize,
-    pub specified: Vec<u64>,
-    pub bits: Vec<u64>,
-    pub slices: usize,
-    pub seeds: Vec<u64>,
 }
 
 pub fn step(cells: usize, taps: u64, state: u64) -> u64 {
@@ -140,10 +128,10 @@ impl Call {
         }
     }
 
-    pub fn check_stop(&self, chains: usize) -> usize {
+    pub fn check_stop(&self) -> usize {
         unsafe {
             seeds_check_stop(
-                chains,
+                self.masks.len(),
                 self.specified.as_ptr(),
                 self.specified.len(),
                 self.bits.as_ptr(),

@@ -2,6 +2,7 @@
 // Prints a line for each case and ends with `N passed, M failed`.
 
 mod bench;
+mod call;
 mod figure;
 mod inputs;
 mod leaves;

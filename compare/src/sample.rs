@@ -1,8 +1,8 @@
 // The definitions against the second program: a specification file that states the second program's answers on random inputs.
 // The proof checker computes each answer from the definitions of specs/ and refuses the file where one differs.
 
+use crate::call::Call;
 use crate::inputs::{damage_lightly, lawful};
-use crate::library::Call;
 use crate::random::Random;
 use second::Refused;
 use std::collections::{BTreeMap, BTreeSet};
@@ -184,15 +184,17 @@ fn small(random: &mut Random) -> Call {
 fn windows(random: &mut Random, count: usize) -> Table {
     let rows = (0..count).map(|_| {
         let call = small(random);
-        let (c, m, s) = (call.cells as u64, &call.masks, call.stop);
-        let told = match second::window_seed(c, call.taps, m, s.0, s.1, &call.specified, &call.bits)
-        {
+        let told = match call.window_seed() {
             Ok(state) => format!("seed.Lowest {state}"),
             Err(refused) => format!("seed.Refused {}", cause(refused)),
         };
         let lists = format!("{} {}", list(&call.specified), list(&call.bits));
         (
-            format!("windowSeed {} {} {lists}", settings(&call), slice(s)),
+            format!(
+                "windowSeed {} {} {lists}",
+                settings(&call),
+                slice(call.stop)
+            ),
             told,
         )
     });
@@ -206,19 +208,9 @@ fn windows(random: &mut Random, count: usize) -> Table {
 fn sets(random: &mut Random, count: usize) -> Table {
     let rows = (0..count).map(|_| {
         let call = small(random);
-        let (c, m, s) = (call.cells as u64, &call.masks, call.stop);
         let lent = vec![77; random.between(0, 4)];
         let mut out = lent.clone();
-        let answer = second::encode_set(
-            c,
-            call.taps,
-            m,
-            s.0,
-            s.1,
-            &call.specified,
-            &call.bits,
-            &mut out,
-        );
+        let answer = call.encode_set(&mut out);
         let lists = format!(
             "{} {} {}",
             list(&call.specified),
@@ -226,7 +218,7 @@ fn sets(random: &mut Random, count: usize) -> Table {
             list(&lent)
         );
         (
-            format!("encodeSet {} {} {lists}", settings(&call), slice(s)),
+            format!("encodeSet {} {} {lists}", settings(&call), slice(call.stop)),
             outcome(answer, &out),
         )
     });
@@ -246,22 +238,12 @@ fn lists(random: &mut Random, count: usize) -> Table {
         if random.one_in(6) {
             call.seeds.push(random.bits(6));
         }
-        let (c, m, s) = (call.cells as u64, &call.masks, call.stop);
         let lent = vec![77; random.between(0, 14)];
         let mut out = lent.clone();
-        let answer = second::expand(
-            c,
-            call.taps,
-            m,
-            s.0,
-            s.1,
-            call.slices as u64,
-            &call.seeds,
-            &mut out,
-        );
+        let answer = call.expand(&call.seeds, &mut out);
         let rest = format!("{} {} {}", call.slices, list(&call.seeds), list(&lent));
         (
-            format!("expandList {} {} {rest}", settings(&call), slice(s)),
+            format!("expandList {} {} {rest}", settings(&call), slice(call.stop)),
             outcome(answer, &out),
         )
     });
@@ -279,7 +261,7 @@ fn stops(random: &mut Random, count: usize) -> Table {
             damage_lightly(random, &mut call);
         }
         let chains = call.masks.len();
-        let told = match second::stop_slice(chains as u64, &call.specified, &call.bits) {
+        let told = match call.stop_slice() {
             Ok(stop) => format!("formed.Stop {}", slice(stop)),
             Err(refused) => format!("formed.Refused {}", cause(refused)),
         };

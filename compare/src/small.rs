@@ -11,29 +11,9 @@ pub fn sets() -> Outcome {
     let (mut count, mut cut) = (0, 0);
     for _ in 0..20_000 {
         let call = lawful(&mut random, 7, 3, 14);
-        let (cells, stop) = (call.cells as u64, call.stop);
         let mut out = vec![u64::MAX; call.slices];
-        let ours = second::encode_set(
-            cells,
-            call.taps,
-            &call.masks,
-            stop.0,
-            stop.1,
-            &call.specified,
-            &call.bits,
-            &mut out,
-        );
-        let brute = second::brute_set(
-            cells,
-            call.taps,
-            &call.masks,
-            stop.0,
-            stop.1,
-            &call.specified,
-            &call.bits,
-        )
-        .ok_or("too many cells for brute force")?
-        .map_err(|r| format!("brute force refuses a lawful set by {}", r.number))?;
+        let ours = call.encode_set(&mut out);
+        let brute = call.brute_set()?;
         match brute.fewest {
             Some(fewest) => {
                 same(
@@ -73,26 +53,11 @@ pub fn windows() -> Outcome {
     let mut count = 0;
     for _ in 0..20_000 {
         let call = lawful(&mut random, 9, 4, 10);
-        let (cells, stop) = (call.cells as u64, call.stop);
-        let ours = second::window_seed(
-            cells,
-            call.taps,
-            &call.masks,
-            stop.0,
-            stop.1,
-            &call.specified,
-            &call.bits,
-        );
-        let brute = second::brute_window(
-            cells,
-            call.taps,
-            &call.masks,
-            stop.0,
-            stop.1,
-            &call.specified,
-            &call.bits,
-        );
-        same(&format!("the seed of {call:x?}"), Some(ours), brute)?;
+        same(
+            &format!("the seed of {call:x?}"),
+            Some(call.window_seed()),
+            call.brute_window(),
+        )?;
         count += 1;
     }
     Ok(count)
@@ -104,41 +69,19 @@ pub fn round_trips() -> Outcome {
     let mut count = 0;
     for _ in 0..10_000 {
         let call = lawful(&mut random, 12, 4, 20);
-        let (cells, stop) = (call.cells as u64, call.stop);
         let mut seeds = vec![0; call.slices];
-        let encoded = second::encode_set(
-            cells,
-            call.taps,
-            &call.masks,
-            stop.0,
-            stop.1,
-            &call.specified,
-            &call.bits,
-            &mut seeds,
-        );
-        let Ok(number) = encoded else { continue };
+        let Ok(number) = call.encode_set(&mut seeds) else {
+            continue;
+        };
         let mut slices = vec![0; call.slices];
-        let expanded = second::expand(
-            cells,
-            call.taps,
-            &call.masks,
-            stop.0,
-            stop.1,
-            call.slices as u64,
-            &seeds[..number],
-            &mut slices,
-        );
         same(
             &format!("the total of {call:x?}"),
-            expanded,
+            call.expand(&seeds[..number], &mut slices),
             Ok(call.slices),
         )?;
         for (place, &slice) in slices.iter().enumerate() {
-            same(
-                &format!("slice {place} of {call:x?}"),
-                second::agrees(call.specified[place], call.bits[place], slice),
-                true,
-            )?;
+            let agrees = second::agrees(call.specified[place], call.bits[place], slice);
+            same(&format!("slice {place} of {call:x?}"), agrees, true)?;
         }
         count += 1;
     }
