@@ -1,45 +1,63 @@
--- After any number of windows (ahead) the greedy cutting is at least as far as any other cutting of the set or of a start.
+-- Ahead: the one induction that sets another cutting against the greedy one, and what follows from it.
+--     ahead-hop         after any number of windows another cutting of the set or of a start is at most as far as that many greedy windows
+--     delivered-all     after as many windows as it has, a cutting is at its end
+--     delivered-hop     the greedy ends are where the greedy windows lead
+--     ahead             the greedy cutting is at least as far, after any number of windows
+--     hop-ahead         and at the end of the other cutting
 -- Assumes nothing.
-use mathlib.Core.Path.{_≡_, refl}
+use mathlib.Core.Path.{_≡_, refl, sym, _∙_}
 use mathlib.Core.Logic.{_⊎_, inl, inr}
 use mathlib.Core.Bool.{Bool}
 use mathlib.Core.List.{List, []}
 use Prim.Native.Nat.{ℕ, zero, suc, _+_, _≤_}
 use native.Mathlib.Omega.{arith}
+use lib.ListN.{length}
 use Rattle.cutting.specs.Cutting.{no-window, window, delivered}
-use Rattle.cutting.specs.Greedy.{reach, ends}
-use Rattle.cutting.specs.Meaning.{Cuts, Windows}
-use Rattle.cutting.proofs.Reach.{Stops, Goes, reach-cases, reach-top, reach-end, reach-mono}
-use Rattle.cutting.proofs.Hops.{ends-more, ends-stop, ends-cut}
+use Rattle.cutting.specs.Greedy.{reach, hop, ends}
+use Rattle.cutting.specs.Meaning.{Cuts, Bounds, Windows}
+use Rattle.cutting.proofs.Reach.{Stops, Goes, reach-cases, reach-le, reach-top, reach-end, reach-mono}
+use Rattle.cutting.proofs.Hops.{hop-stays, ends-more, ends-stop}
 
-module _ (ok : ℕ → ℕ → Bool) (n : ℕ) (w : Windows ok n) where
+module _ (ok : ℕ → ℕ → Bool) (n : ℕ) (w : Bounds ok n) where
+  hop-le : (j a : ℕ) → a ≤ hop ok n j a
+  unfolding hop
+  hop-le zero a = omega arith
+  hop-le (suc j) a = omega (arith, reach-le ok n w a, hop-le j (reach ok n a))
+
+  pub delivered-all : {a b : ℕ} {es : List ℕ} → Cuts ok a es b → delivered a es (length es) ≡ b
+  unfolding delivered
+  delivered-all no-window = refl
+  delivered-all (window t c) = delivered-all c
+
   delivered-none : (a j : ℕ) → delivered a [] j ≡ a
   unfolding delivered
   delivered-none a zero = refl
   delivered-none a (suc j) = refl
 
-  delivered-le : {a b : ℕ} {es : List ℕ} → Cuts ok a es b → (j : ℕ) → a ≤ delivered a es j
-  unfolding delivered
-  delivered-le c zero = omega arith
-  delivered-le no-window (suc j) = omega arith
-  delivered-le {a} (window {k = k} t c) (suc j) = omega (arith, w .bounds .forward a k t, delivered-le c j)
+  pub delivered-hop : (j d a : ℕ) → n ≤ a + d → delivered a (ends ok n d a) j ≡ hop ok n j a
+  unfolding delivered hop
+  delivered-hop zero d a h = refl
+  delivered-hop (suc j) d a h = go d h (reach-cases ok n w a) (λ d b f. delivered-hop j d b f)
+    where
+      stay : (d : ℕ) → reach ok n a ≡ a → delivered a (ends ok n d a) (suc j) ≡ hop ok n (suc j) a
+      stay d e = rw (ends-stop ok n d a e) (delivered-none a (suc j)) ∙ sym (hop-stays ok n w a e (suc j))
+
+      go : (d : ℕ) → n ≤ a + d → Stops ok a (reach ok n a) ⊎ Goes ok a (reach ok n a)
+          → ((d b : ℕ) → n ≤ b + d → delivered b (ends ok n d b) j ≡ hop ok n j b) → delivered a (ends ok n d a) (suc j) ≡ hop ok n (suc j) a
+      go d h (inl s) ih = stay d (s .0)
+      go zero h (inr g) ih = stay zero (reach-end ok n w a (omega arith))
+      go (suc d) h (inr g) ih = rw (ends-more ok n d a (g .1), delivered) (ih d (reach ok n a) (let l = g .1 in omega arith))
+
+module _ (ok : ℕ → ℕ → Bool) (n : ℕ) (w : Windows ok n) where
+  pub ahead-hop : {a b : ℕ} {es : List ℕ} (j g : ℕ) → Cuts ok a es b → a ≤ g → delivered a es j ≤ hop ok n j g
+  unfolding delivered hop
+  ahead-hop zero g c h = h
+  ahead-hop (suc j) g no-window h = omega (arith, hop-le ok n (w .bounds) (suc j) g)
+  ahead-hop {a} (suc j) g (window {k = k} t c) h =
+      ahead-hop j (reach ok n g) c (omega (arith, reach-top ok n (w .bounds) a k t, reach-mono ok n w a g h))
 
   pub ahead : {a b : ℕ} {es : List ℕ} → Cuts ok a es b → (j d g : ℕ) → a ≤ g → n ≤ g + d → delivered a es j ≤ delivered g (ends ok n d g) j
-  unfolding delivered
-  ahead c zero d g h f = h
-  ahead {a} no-window (suc j) d g h f = omega (arith, delivered-le (ends-cut ok n (w .bounds) d g) (suc j))
-  ahead {a} (window {k = k} {es = es} t c) (suc j) d g h f = go d f (reach-cases ok n (w .bounds) g) (λ d g l f. ahead c j d g l f)
-    where
-      near : k ≤ reach ok n g
-      near = omega (arith, reach-top ok n (w .bounds) a k t, reach-mono ok n w a g h)
+  ahead c j d g h f = omega (arith, ahead-hop j g c h, delivered-hop ok n (w .bounds) j d g f)
 
-      stay : (d : ℕ) → reach ok n g ≡ g → delivered k es j ≤ delivered g (ends ok n d g) j → delivered k es j ≤ delivered g (ends ok n d g) (suc j)
-      stay d e q =
-          let z = ends-stop ok n d g e in
-          rw (z, delivered) (let y : delivered g (ends ok n d g) j ≡ g = rw z (delivered-none g j) in omega arith)
-
-      go : (d : ℕ) → n ≤ g + d → Stops ok g (reach ok n g) ⊎ Goes ok g (reach ok n g)
-          → ((d g : ℕ) → k ≤ g → n ≤ g + d → delivered k es j ≤ delivered g (ends ok n d g) j) → delivered k es j ≤ delivered g (ends ok n d g) (suc j)
-      go d f (inl s) ih = stay d (s .0) (ih d g (let e = s .0 in omega (arith, near)) f)
-      go zero f (inr s) ih = absurd (let e = reach-end ok n (w .bounds) g (omega arith) in let l = s .1 in omega arith)
-      go (suc d) f (inr s) ih = rw (ends-more ok n d g (s .1), delivered) (ih d (reach ok n g) near (let l = s .1 in omega arith))
+  pub hop-ahead : {a b : ℕ} {es : List ℕ} (g : ℕ) → Cuts ok a es b → a ≤ g → b ≤ hop ok n (length es) g
+  hop-ahead {es = es} g c h = omega (arith, ahead-hop (length es) g c h, delivered-all ok n (w .bounds) c)

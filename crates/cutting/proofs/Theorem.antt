@@ -1,5 +1,4 @@
 -- The theorem: the greedy cutting has the fewest windows, is ahead after any number of them, and is stuck only where there is no cutting. It names neither limit, nor edges, nor closing: those are in ok.
---     hop-ahead        as many greedy windows as another cutting has come at least as far
 --     fewest-ends      no cutting of the whole has fewer windows
 --     farthest         what can be cut ends at or before the place where greedy stops
 --     never-stuck      where there is a cutting of the whole, greedy comes to its end
@@ -15,19 +14,13 @@ use native.Mathlib.Omega.{arith}
 use lib.Dec.{ltb, eqb}
 use lib.ListN.{length}
 use borrow.Author.Tests.{ltb-true, eqb-true, eqb-false}
-use Rattle.cutting.specs.Cutting.{no-window, window}
 use Rattle.cutting.specs.Greedy.{reach, hop, ends, Plan, done, stuck, greedy}
 use Rattle.cutting.specs.Meaning.{Cuts, Windows, StuckAt, Means}
-use Rattle.cutting.proofs.Reach.{reach-top, reach-end, reach-mono}
-use Rattle.cutting.proofs.Hops.{hop-in, hop-stops, ends-cut}
-use Rattle.cutting.proofs.Ahead.{ahead}
+use Rattle.cutting.proofs.Reach.{reach-end}
+use Rattle.cutting.proofs.Hops.{hop-stays, hop-in, hop-stops, ends-cut}
+use Rattle.cutting.proofs.Ahead.{ahead, hop-ahead}
 
 module _ (ok : ℕ → ℕ → Bool) (n : ℕ) (w : Windows ok n) where
-  pub hop-ahead : {a b : ℕ} {es : List ℕ} (g : ℕ) → Cuts ok a es b → a ≤ g → b ≤ hop ok n (length es) g
-  unfolding hop
-  hop-ahead g no-window h = h
-  hop-ahead {a} g (window {k = k} t c) h = hop-ahead (reach ok n g) c (omega (arith, reach-top ok n (w .bounds) a k t, reach-mono ok n w a g h))
-
   -- where c windows come to a stop, there are at most c
   ends-short : (d c a : ℕ) → reach ok n (hop ok n c a) ≡ hop ok n c a → length (ends ok n d a) ≤ c
   unfolding hop ends
@@ -43,14 +36,12 @@ module _ (ok : ℕ → ℕ → Bool) (n : ℕ) (w : Windows ok n) where
 
   pub fewest-ends : {es : List ℕ} → Cuts ok 0 es n → length (ends ok n n 0) ≤ length es
   fewest-ends {es} c =
-      ends-short n (length es) 0 (reach-end ok n (w .bounds) (hop ok n (length es) 0) (hop-ahead 0 c (omega arith)))
-
-  stop-bounds : {a b : ℕ} {es : List ℕ} (g : ℕ) → reach ok n g ≡ g → Cuts ok a es b → a ≤ g → b ≤ g
-  stop-bounds g s no-window h = h
-  stop-bounds {a} g s (window {k = k} t c) h = stop-bounds g s c (omega (arith, reach-top ok n (w .bounds) a k t, reach-mono ok n w a g h))
+      ends-short n (length es) 0 (reach-end ok n (w .bounds) (hop ok n (length es) 0) (hop-ahead ok n w 0 c (omega arith)))
 
   pub farthest : {b : ℕ} {es : List ℕ} → Cuts ok 0 es b → b ≤ hop ok n n 0
-  farthest c = stop-bounds (hop ok n n 0) (hop-stops ok n (w .bounds) n 0 (omega arith)) c (omega arith)
+  farthest {es = es} c =
+      let g : ℕ = hop ok n n 0 in
+      omega (arith, hop-ahead ok n w g c (omega arith), hop-stays ok n (w .bounds) g (hop-stops ok n (w .bounds) n 0 (omega arith)) (length es))
 
   pub never-stuck : {es : List ℕ} → Cuts ok 0 es n → hop ok n n 0 ≡ n
   never-stuck c = omega (arith, farthest c, hop-in ok n (w .bounds) n 0 (omega arith))
