@@ -2,13 +2,12 @@
 --     LeastIs, LastIs      what an answer says, by the answer
 --     least-is, last-is    the answer of the search says it
 --     least-of, none-of    the answer from what it says: of a loop that goes up, what it passed over and what it stops at
---     past-more            of a loop that goes down: one more number that is passed over
 -- Assumes nothing.
-use mathlib.Core.Path.{_≡_, refl, ap, subst}
+use mathlib.Core.Path.{_≡_, refl, ap}
 use mathlib.Core.Logic.{⊎-elim}
 use mathlib.Core.Bool.{Bool, true, false}
 use mathlib.Core.Option.{Option, none, some}
-use Prim.Native.Nat.{ℕ, zero, suc, _-_, _≤_, _<_}
+use Prim.Native.Nat.{ℕ, zero, suc, _<_}
 use native.Mathlib.Nat.{not-suc-le-zero, le-of-suc-le-suc, eq-or-lt-of-le}
 use native.Mathlib.Omega.{arith}
 use Rattle.bounded.specs.Bounded.{leastBelow, lastBelow, NoneBelow, Least, Last}
@@ -53,9 +52,6 @@ module _ (p : ℕ → Bool) where
       go none true e all = record { below = omega arith; passes = e; least = all }
       go none false e all = none-more n all e
       go (some g) b e l = record { below = omega (arith, l .below); passes = l .passes; least = l .least }
-
-pub past-more : (P : ℕ → Type 0) (k : ℕ) → ((j : ℕ) → k < j → P j) → P k → (j : ℕ) → k - 1 < j → P j
-past-more P k all here j h = ⊎-elim (λ e. subst P e here) (λ l. all j l) (eq-or-lt-of-le (let le : k ≤ j = omega arith in le))
 
 module _ (p : ℕ → Bool) (n : ℕ) where
   pub least-of : (s : ℕ) → s < n → NoneBelow p s → p s ≡ true → leastBelow p n ≡ some s

@@ -5,7 +5,7 @@
 --     digit-and                  a digit of a conjunction is the lesser of the two
 --     words-equal                two words with the same digits are one
 --     xor-half, xor-low          the rest and the lowest digit of an exclusive or
---     beyond-yes, beyond-no, yes-beyond, no-beyond     what "a bit at or above n" says
+--     beyond-no, no-beyond       what "a bit at or above n" says
 --     beyond-quotient            a bit at or above n is what is left of the quotient by 2 ^ n
 --     beyond-wide                a word has no bit at or above a wider width
 -- Assumes nothing.
@@ -18,7 +18,7 @@ use lib.Arith.{bin-ind}
 use lib.Bits.{bitAnd, bitXor, differ, and-step, xor-step, and-shr}
 use lib.Dec.{leb, ltb}
 use lib.Pow.{pow-pos, pow-mono, field, mod-mod-pow}
-use borrow.Author.Tests.{leb-true, leb-false, le-leb, lt-leb, lt-ltb, le-ltb}
+use borrow.Author.Tests.{leb-true, leb-false, lt-leb, lt-ltb, le-ltb}
 use Rattle.gf2.specs.Words.{digit, beyond}
 
 pub digit-lt : (x i : ℕ) → digit x i < 2
@@ -80,17 +80,9 @@ xor-half a b = omega (arith, xor-step a b, differ-lt (a % 2) (b % 2) (omega arit
 pub xor-low : (a b : ℕ) → bitXor a b % 2 ≡ differ (a % 2) (b % 2)
 xor-low a b = omega (arith, xor-step a b, differ-lt (a % 2) (b % 2) (omega arith) (omega arith))
 
-pub beyond-yes : (n x : ℕ) → 2 ^ n ≤ x → beyond n x ≡ true
-unfolding beyond
-beyond-yes n x h = le-leb (2 ^ n) x h
-
 pub beyond-no : (n x : ℕ) → x < 2 ^ n → beyond n x ≡ false
 unfolding beyond
 beyond-no n x h = lt-leb (2 ^ n) x h
-
-pub yes-beyond : (n x : ℕ) → beyond n x ≡ true → 2 ^ n ≤ x
-unfolding beyond
-yes-beyond n x t = leb-true (2 ^ n) x t
 
 pub no-beyond : (n x : ℕ) → beyond n x ≡ false → x < 2 ^ n
 unfolding beyond

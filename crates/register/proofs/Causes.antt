@@ -1,19 +1,15 @@
 -- Causes 1 and 2, as the code tests them, one test after the other.
 --     register-range, register-beyond, register-last     cause 1
 --     chains-count, chains-masks                         cause 2
---     lawful-register                                    what a register is that cause 1 does not refuse
 -- Assumes nothing.
 use mathlib.Core.Path.{_≡_}
-use mathlib.Core.Bool.{true, false, not, _||_}
+use mathlib.Core.Bool.{true, false}
 use mathlib.Core.List.{List}
-use Prim.Native.Nat.{ℕ, _-_, _≤_, _<_, _^_}
+use Prim.Native.Nat.{ℕ, _-_}
 use lib.Dec.{eqb}
 use lib.ListN.{length}
-use borrow.Author.Tests.{not-false}
 use Rattle.bounded.specs.Bounded.{within, any}
-use Rattle.bounded.proofs.Tests.{neither, within-yes}
 use Rattle.gf2.specs.Words.{digit, beyond}
-use Rattle.gf2.proofs.Digits.{no-beyond}
 use Rattle.register.specs.Register.{badRegister}
 use Rattle.register.specs.Chains.{badCount, badMask, badChains}
 
@@ -29,13 +25,6 @@ module _ (cells taps : ℕ) where
   pub register-last : within 1 64 cells ≡ true → beyond cells taps ≡ false → badRegister cells taps ≡ eqb (digit taps (cells - 1)) 0
   unfolding badRegister
   register-last w b = rw (w, b)
-
-  pub lawful-register : badRegister cells taps ≡ false → (1 ≤ cells) × (cells ≤ 64) × (taps < 2 ^ cells)
-  unfolding badRegister
-  lawful-register l =
-      let n = neither (not (within 1 64 cells)) (beyond cells taps || eqb (digit taps (cells - 1)) 0) l in
-      let w = within-yes 1 64 cells (not-false (within 1 64 cells) (n .0)) in
-      (w .0, w .1, no-beyond cells taps (neither (beyond cells taps) _ (n .1) .0))
 
 module _ (cells : ℕ) (masks : List ℕ) where
   pub chains-count : badCount (length masks) ≡ true → badChains cells masks ≡ true
