@@ -1,4 +1,5 @@
 -- The choice of a step is document 01's: the greatest count, on a tie the leftmost position, and there the 0s before the 1s.
+--     none-counted-left          no slice that stays in has the counted bit
 --     Chosen stop counts n q     of the choices below n at unset positions, q has the greatest count, and each lower one has less
 --     ChoiceIs, choice-is        the choice is so, or every position is set
 --     zero-bit, zero-leftmost    where the greatest count is 0, the choice is the leftmost unset position with the bit 0, which becomes 1
@@ -8,16 +9,17 @@ use mathlib.Core.Path.{_≡_, refl}
 use mathlib.Core.Logic.{⊎-elim}
 use mathlib.Core.Bool.{Bool, true, false}
 use mathlib.Core.Option.{Option, none, some}
-use mathlib.Core.List.{List}
+use mathlib.Core.List.{List, [], _∷_}
 use Prim.Native.Nat.{ℕ, zero, suc, _+_, _-_, _*_, _/_, _%_, _≤_, _<_}
 use native.Mathlib.Nat.{not-suc-le-zero, le-of-suc-le-suc, eq-or-lt-of-le}
 use native.Mathlib.Omega.{arith}
-use lib.Dec.{ltb}
+use lib.Dec.{ltb, eqb}
 use lib.ListN.{length}
-use borrow.Author.Tests.{ltb-true, ltb-false}
-use Rattle.bounded.proofs.Tests.{clash, lt-or-le}
+use borrow.Author.Tests.{ltb-true, ltb-false, eqb-true, ne-eqb}
+use Rattle.bounded.proofs.Tests.{clash, lt-or-le, both}
+use Rattle.gf2.specs.Words.{digit}
 use Rattle.slices.specs.declared.TestSlice.{TestSlice}
-use Rattle.stop.specs.Steps.{isSet, count, better, choice, keep}
+use Rattle.stop.specs.Steps.{has, filter, isSet, count, better, choice, keep}
 
 pub record Chosen (stop : TestSlice) (counts : ℕ → ℕ) (n q : ℕ) : Type 0 where
   pub below : q < n
@@ -28,6 +30,27 @@ pub record Chosen (stop : TestSlice) (counts : ℕ → ℕ) (n q : ℕ) : Type 0
 abbrev pub ChoiceIs : TestSlice → (ℕ → ℕ) → ℕ → Option ℕ → Type 0
 ChoiceIs stop counts n none = (r : ℕ) → r < n → isSet (r / 2) stop ≡ true
 ChoiceIs stop counts n (some q) = Chosen stop counts n q
+
+filter-apart : (p r : TestSlice → Bool) → ((x : TestSlice) → p x ≡ true → r x ≡ false) → (xs : List TestSlice) → filter r (filter p xs) ≡ []
+unfolding filter
+filter-apart p r apart [] = refl
+filter-apart p r apart (x ∷ xs) = go (p x) refl (filter-apart p r apart xs)
+  where
+    go : (b : Bool) → p x ≡ b → filter r (filter p xs) ≡ [] → filter r (elim b [ true ↦ x ∷ filter p xs | false ↦ filter p xs ]) ≡ []
+    go true e ih = rw (apart x e, filter) ih
+    go false e ih = ih
+
+-- the two bits of a position are apart
+bits-apart : (p b : ℕ) (x : TestSlice) → b < 2 → has p (1 - b) x ≡ true → has p b x ≡ false
+bits-apart p b x l t =
+    let a = both (eqb (digit (x .specified) p) 1) (eqb (digit (x .bits) p) (1 - b)) t in
+    let d = eqb-true (digit (x .bits) p) (1 - b) (a .1) in
+    rw (a .0, ne-eqb (digit (x .bits) p) b (λ e. omega arith))
+
+pub none-counted-left : (q : ℕ) (xs : List TestSlice) → count q (keep q xs) ≡ 0
+unfolding count keep
+none-counted-left q xs =
+    rw (filter-apart (has (q / 2) (1 - q % 2)) (has (q / 2) (q % 2)) (λ x t. bits-apart (q / 2) (q % 2) x (omega arith) t) xs)
 
 module _ (stop : TestSlice) (counts : ℕ → ℕ) where
   -- what holds at n and of each number below n
