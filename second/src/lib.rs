@@ -2,7 +2,7 @@
 // Follows document 01, "Refusal sheet".
 
 //! Self-stopping seeds for scan slices: a second program, made from document
-//! 004 (section III.A, figure 2) and document 01 alone.
+//! 004 (section III.A, figure 2) and document 01, without sight of the definitions.
 
 mod brute;
 mod brute_sheet;

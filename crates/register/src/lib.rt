@@ -11,12 +11,13 @@ ghost use Rattle.register.specs.Chains.{badCount, badMask, badChains, sl
 // The most chains.
 pub const MOST_CHAINS: usize = 64;
 
+// A register. The constructor judges cells and taps; the step is total without that.
 pub struct Register {
     pub cells: usize,
     pub taps: u64,
 }
 
-// The settings of a call: its register, and the most slices of a window.
+// The settings of a call, as they are handed in and not yet judged: cells and taps of its register, and the most slices of a window.
 pub struct Settings {
     pub cells: usize,
     pub taps: u64,
