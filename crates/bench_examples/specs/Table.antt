@@ -28,7 +28,7 @@ use Rattle.checks.specs.Lengths.{badWindow, badSet, badCubes, badList}
 use Rattle.checks.specs.Order.{tests, firstOf, judged}
 use Rattle.checks.specs.Calls.{stoppedFaults, windowFaults, setFaults, cubesFaults, stopFaults, listFaults}
 use Rattle.cutting.specs.Greedy.{reach, hop, ends, greedy}
-use Rattle.stop.specs.Steps.{filter, count, better, choice, settle, keep, steps, stopFor}
+use Rattle.stop.specs.Steps.{filter, count, better, choice, settle, keep, setBy, advance, stage, ended, stopFor}
 use Rattle.stop.specs.Entry.{stopOr6, stopOf}
 use Rattle.stop.specs.declared.Formed.{Formed}
 use Rattle.stop.specs.declared.Formed.the-variants as formed
@@ -158,5 +158,5 @@ tolds [] = []
 tolds (r ∷ rs) = r .told ∷ tolds rs
 
 pub starred : answers table ≡ tolds table
-unfolding answers tolds answer refusal states showings of-formed of-seed of-written of-encoded yes digit odd beyond ones onesIn within any leastBelow lastBelow refuse fill step badRegister chainsSlice badCount badMask badChains agrees shows paired badSlice badSlices badStop badWindow badSet badCubes badList tests firstOf judged stoppedFaults windowFaults setFaults cubesFaults stopFaults listFaults reach hop ends greedy filter count better choice settle keep steps stopFor stopOr6 stopOf fits quiet covers seedOf before far placed closes seedAt ok lowestOr7 windowSeed slicesOf firstStop ending delivers after walk totalled expanding expandList seedsOf planned encoding encodeSet stopped withStop encodeCubes isCharacter specifiedAt bitAt inFront sliceOf
+unfolding answers tolds answer refusal states showings of-formed of-seed of-written of-encoded yes digit odd beyond ones onesIn within any leastBelow lastBelow refuse fill step badRegister chainsSlice badCount badMask badChains agrees shows paired badSlice badSlices badStop badWindow badSet badCubes badList tests firstOf judged stoppedFaults windowFaults setFaults cubesFaults stopFaults listFaults reach hop ends greedy filter count better choice settle keep setBy advance stage ended stopFor stopOr6 stopOf fits quiet covers seedOf before far placed closes seedAt ok lowestOr7 windowSeed slicesOf firstStop ending delivers after walk totalled expanding expandList seedsOf planned encoding encodeSet stopped withStop encodeCubes isCharacter specifiedAt bitAt inFront sliceOf
 starred = refl

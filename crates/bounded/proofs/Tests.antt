@@ -2,10 +2,11 @@
 --     clash          a test is not both true and false
 --     lt-or-le       two numbers compare
 --     both, and-yes     a conjunction is true, and its parts are
+--     alike          two tests, each true where the other is, are one
 --     neither        a disjunction is false, and its parts are
 --     within-yes, below-within     what "low to high" says
 -- Assumes nothing.
-use mathlib.Core.Path.{_≡_, refl}
+use mathlib.Core.Path.{_≡_, refl, sym}
 use mathlib.Core.Logic.{_⊎_, inl, inr}
 use mathlib.Core.Bool.{Bool, true, false, _&&_, _||_}
 use Prim.Native.Nat.{ℕ, _≤_, _<_}
@@ -30,6 +31,11 @@ both false b e = (e, cc)
 
 pub and-yes : (a b : Bool) → a ≡ true → b ≡ true → a && b ≡ true
 and-yes a b p q = rw (p, q)
+
+pub alike : (a b : Bool) → (a ≡ true → b ≡ true) → (b ≡ true → a ≡ true) → a ≡ b
+alike true b f g = sym (f refl)
+alike false true f g = g refl
+alike false false f g = refl
 
 pub neither : (a b : Bool) → a || b ≡ false → (a ≡ false) × (b ≡ false)
 neither true b e = (e, cc)

@@ -5,6 +5,7 @@
 --     digit-and                  a digit of a conjunction is the lesser of the two
 --     words-equal                two words with the same digits are one
 --     xor-half, xor-low          the rest and the lowest digit of an exclusive or
+--     put-same, put-other, put-below     the word with a cell set that held 0: that cell, each other cell, and the width
 --     beyond-no, no-beyond       what "a bit at or above n" says
 --     beyond-quotient            a bit at or above n is what is left of the quotient by 2 ^ n
 --     beyond-wide                a word has no bit at or above a wider width
@@ -12,7 +13,7 @@
 use mathlib.Core.Path.{_≡_, refl, sym, ap, _∙_, subst}
 use mathlib.Core.Bool.{Bool, true, false}
 use Prim.Native.Nat.{ℕ, zero, suc, _+_, _-_, _*_, _/_, _%_, _^_, _≤_, _<_, min}
-use native.Mathlib.Nat.{div-div-eq-div-mul, div-one, zero-div, le-div-iff-mul-le, div-eq-of-lt}
+use native.Mathlib.Nat.{div-div-eq-div-mul, div-one, zero-div, le-div-iff-mul-le, div-eq-of-lt, mul-left-comm}
 use native.Mathlib.Omega.{arith}
 use lib.Arith.{bin-ind}
 use lib.Bits.{bitAnd, bitXor, differ, and-step, xor-step, and-shr}
@@ -67,6 +68,36 @@ words-equal =
     let low : a % 2 ≡ b % 2 = sym (digit-zero a) ∙ h 0 ∙ digit-zero b in
     let rest = ih (b / 2) (λ i. sym (digit-suc a i) ∙ h (suc i) ∙ digit-suc b i) in
     omega arith)
+
+-- a bit's weight one cell higher
+weight-suc : (b p : ℕ) → b * 2 ^ suc p ≡ 2 * (b * 2 ^ p)
+weight-suc b p = let e : 2 ^ suc p ≡ 2 * 2 ^ p = omega arith in ap (λ (w : ℕ). b * w) e ∙ mul-left-comm b 2 (2 ^ p)
+
+module _ (b : ℕ) (bit : b < 2) where
+  half-put : (x p : ℕ) → (x + b * 2 ^ suc p) / 2 ≡ x / 2 + b * 2 ^ p
+  half-put x p = let e = weight-suc b p in omega arith
+
+  pub put-same : (x p : ℕ) → digit x p ≡ 0 → digit (x + b * 2 ^ p) p ≡ b
+  put-same x zero z = digit-zero (x + b * 1) ∙ (let l = digit-zero x in omega arith)
+  put-same x (suc p) z = digit-suc (x + b * 2 ^ suc p) p ∙ ap (λ (y : ℕ). digit y p) (half-put x p) ∙ put-same (x / 2) p (sym (digit-suc x p) ∙ z)
+
+  pub put-other : (x p i : ℕ) → digit x p ≡ 0 → (i ≡ p → ⊥) → digit (x + b * 2 ^ p) i ≡ digit x i
+  put-other x zero zero z ne = absurd (ne refl)
+  put-other x zero (suc i) z ne =
+      let h : (x + b * 1) / 2 ≡ x / 2 = (let l = digit-zero x in omega arith) in
+      digit-suc (x + b * 1) i ∙ ap (λ (y : ℕ). digit y i) h ∙ sym (digit-suc x i)
+  put-other x (suc p) zero z ne =
+      digit-zero (x + b * 2 ^ suc p) ∙ (let e = weight-suc b p in omega arith) ∙ sym (digit-zero x)
+  put-other x (suc p) (suc i) z ne =
+      digit-suc (x + b * 2 ^ suc p) i ∙ ap (λ (y : ℕ). digit y i) (half-put x p) ∙ put-other (x / 2) p i (sym (digit-suc x p) ∙ z) (λ e. ne (ap suc e)) ∙ sym (digit-suc x i)
+
+  pub put-below : (n x p : ℕ) → p < n → x < 2 ^ n → digit x p ≡ 0 → x + b * 2 ^ p < 2 ^ n
+  put-below zero x p h l z = absurd (omega arith)
+  put-below (suc n) x zero h l z = let e = digit-zero x in omega arith
+  put-below (suc n) x (suc p) h l z =
+      let r = put-below n (x / 2) p (omega arith) (omega arith) (sym (digit-suc x p) ∙ z) in
+      let e = half-put x p in
+      omega arith
 
 differ-lt : (y z : ℕ) → y < 2 → z < 2 → differ y z < 2
 differ-lt zero z hy hz = hz

@@ -5,10 +5,15 @@
 --     count q xs            how many of the slices xs have the bit q % 2 at the position q / 2: the choice q
 --     better counts q o     q against the best of the lower choices: it must have a greater count
 --     choice stop counts n  of the choices below n at unset positions, the one with the greatest count; on a tie the lowest: the leftmost position, and there the 0s before the 1s
+--     put p b stop          position p of the stop slice set to the bit b
 --     settle q stop         the position of the choice is set to the complement of the counted bit
 --     keep q xs             the slices that have the counted bit or x there are removed
 --     isEmpty xs            no slice is in
---     steps d chains stop xs     the stop slice when at most d positions more are set and xs are the slices still in; none where slices stay in
+--     Stage, start set      the stop slice so far, and the slices still in; before the first step
+--     setBy q g             the stage after the choice q
+--     advance chains g      the stage after one step more
+--     stage chains set k    the stage after k steps
+--     ended g               the stop slice when the steps have ended, or none where slices are in
 --     stopFor chains set    the stop slice of a set
 use mathlib.Core.Bool.{Bool, true, false, _&&_}
 use mathlib.Core.Option.{Option, none, some}
@@ -41,8 +46,11 @@ unfoldable pub choice : TestSlice → (ℕ → ℕ) → ℕ → Option ℕ
 choice stop counts zero = none
 choice stop counts (suc q) = elim (isSet (q / 2) stop) [ true ↦ choice stop counts q | false ↦ better counts q (choice stop counts q) ]
 
+abbrev pub put : ℕ → ℕ → TestSlice → TestSlice
+put p b stop = record { specified = stop .specified + 2 ^ p; bits = stop .bits + b * 2 ^ p }
+
 unfoldable pub settle : ℕ → TestSlice → TestSlice
-settle q stop = record { specified = stop .specified + 2 ^ (q / 2); bits = stop .bits + (1 - q % 2) * 2 ^ (q / 2) }
+settle q stop = put (q / 2) (1 - q % 2) stop
 
 unfoldable pub keep : ℕ → List TestSlice → List TestSlice
 keep q xs = filter (has (q / 2) (1 - q % 2)) xs
@@ -51,17 +59,32 @@ abbrev pub isEmpty : List TestSlice → Bool
 isEmpty [] = true
 isEmpty (x ∷ xs) = false
 
--- Repeat while slices are in. If slices are in and no position is unset, there is no stop slice.
-unfoldable pub steps : ℕ → ℕ → TestSlice → List TestSlice → Option TestSlice
-steps zero chains stop xs = elim (isEmpty xs) [ true ↦ some stop | false ↦ none ]
-steps (suc d) chains stop xs = elim (isEmpty xs) [
-  | true ↦ some stop
-  | false ↦ elim (choice stop (λ q. count q xs) (2 * chains)) [
-    | none ↦ none
-    | some q ↦ steps d chains (settle q stop) (keep q xs)
-  ]
+pub record Stage : Type 0 where
+  pub stop : TestSlice
+  pub left : List TestSlice
+
+-- All positions start as x and all test slices are in.
+abbrev pub start : List TestSlice → Stage
+start set = record { stop = record { specified = 0; bits = 0 }; left = set }
+
+unfoldable pub setBy : ℕ → Stage → Stage
+setBy q g = record { stop = settle q (g .stop); left = keep q (g .left) }
+
+-- Repeat while slices are in: where none is, a step changes nothing, and so where no position is unset.
+unfoldable pub advance : ℕ → Stage → Stage
+advance chains g = elim (isEmpty (g .left)) [
+  | true ↦ g
+  | false ↦ elim (choice (g .stop) (λ q. count q (g .left)) (2 * chains)) [ none ↦ g | some q ↦ setBy q g ]
 ]
 
--- All positions start as x and all test slices are in. Each step sets a position, so there are at most as many steps as chains.
+unfoldable pub stage : ℕ → List TestSlice → ℕ → Stage
+stage chains set zero = start set
+stage chains set (suc k) = advance chains (stage chains set k)
+
+-- If slices are in at the end, there is no stop slice.
+unfoldable pub ended : Stage → Option TestSlice
+ended g = elim (isEmpty (g .left)) [ true ↦ some (g .stop) | false ↦ none ]
+
+-- Each step sets a position, so there are at most as many steps as chains.
 unfoldable pub stopFor : ℕ → List TestSlice → Option TestSlice
-stopFor chains set = steps chains chains (record { specified = 0; bits = 0 }) set
+stopFor chains set = ended (stage chains set chains)

@@ -1,0 +1,79 @@
+-- The whole call for a stop slice.
+--     call-refused, call-formed     its answer, by the checks
+--     few-chains                    a well-formed call has at most 64 chains
+--     formed-means                  what a stop slice that it gives is good for
+--     refused-means                 a well-formed call is refused only where slices are in and no position is unset
+-- Assumes nothing.
+use mathlib.Core.Path.{_≡_, refl, sym, ap, _∙_}
+use mathlib.Core.Option.{Option, none, some}
+use mathlib.Core.List.{List}
+use Prim.Native.Nat.{ℕ, _≤_, _<_}
+use native.Mathlib.Omega.{arith}
+use lib.ListN.{length}
+use borrow.Author.Tests.{not-false}
+use Rattle.bounded.specs.Bounded.{within}
+use Rattle.bounded.proofs.Tests.{within-yes}
+use Rattle.causes.specs.declared.Cause.{Cause}
+use Rattle.register.specs.Chains.{badCount}
+use Rattle.slices.specs.declared.TestSlice.{TestSlice}
+use Rattle.slices.specs.Slices.{paired}
+use Rattle.slices.proofs.Paired.{paired-length}
+use Rattle.slices.proofs.Causes.{slices-equal}
+use Rattle.checks.specs.Lengths.{badSet}
+use Rattle.checks.specs.Order.{judged}
+use Rattle.checks.specs.Calls.{stopFaults}
+use Rattle.checks.specs.declared.Verdict.{Verdict}
+use Rattle.checks.proofs.Order.{NoFault, formed-well}
+use Rattle.stop.specs.Steps.{stopFor}
+use Rattle.stop.specs.Entry.{stopOr6, stopOf}
+use Rattle.stop.specs.Meaning.{StopMeaning, SixMeaning}
+use Rattle.stop.specs.declared.Formed.the-variants.{Stop, Refused}
+use Rattle.stop.proofs.Meaning.{stop-means, six-means}
+use Rattle.checks.specs.declared.Verdict.the-variants as verdict
+
+module _ (chains : ℕ) (specified bits : List ℕ) where
+  abbrev set : List TestSlice
+  set = paired specified bits
+
+  abbrev verdict-of : Verdict
+  verdict-of = judged (stopFaults chains specified bits)
+
+  pub call-refused : (c : Cause) → verdict-of ≡ verdict.Refused c → stopOf chains specified bits ≡ Refused c
+  unfolding stopOf
+  call-refused c e = rw (e, stopOf)
+
+  pub call-formed : verdict-of ≡ verdict.WellFormed → stopOf chains specified bits ≡ stopOr6 (stopFor chains set)
+  unfolding stopOf
+  call-formed e = rw (e, stopOf)
+
+  faultless : verdict-of ≡ verdict.WellFormed → NoFault (stopFaults chains specified bits)
+  faultless w = formed-well (stopFaults chains specified bits) w
+
+  pub few-chains : verdict-of ≡ verdict.WellFormed → chains ≤ 64
+  unfolding stopFaults badCount
+  few-chains w = within-yes 1 64 chains (not-false (within 1 64 chains) (faultless w .chains)) .1
+
+  some-slice : verdict-of ≡ verdict.WellFormed → 0 < length set
+  unfolding stopFaults badSet
+  some-slice w =
+      omega (arith, within-yes 1 2048 (length specified) (not-false (within 1 2048 (length specified)) (faultless w .lengths)) .0, paired-length specified bits (slices-equal chains specified bits (faultless w .slices)))
+
+  pub formed-means : (stop : TestSlice) → stopOf chains specified bits ≡ Stop stop → StopMeaning chains set stop
+  unfolding stopOr6
+  formed-means stop e = go verdict-of refl
+    where
+      given : (o : Option TestSlice) → stopFor chains set ≡ o → stopOr6 o ≡ Stop stop → 0 < length set → StopMeaning chains set stop
+      given none f g h = absurd (let z : _≡_ {A = ℕ} 0 1 = cc in omega arith)
+      given (some s) f g h = let same : s ≡ stop = cc in stop-means chains set stop h (f ∙ ap some same)
+
+      go : (v : Verdict) → verdict-of ≡ v → StopMeaning chains set stop
+      go (verdict.Refused c) w = absurd (let f = call-refused c w in let z : _≡_ {A = ℕ} 0 1 = cc in omega arith)
+      go verdict.WellFormed w = given (stopFor chains set) refl (sym (call-formed w) ∙ e) (some-slice w)
+
+  pub refused-means : (c : Cause) → verdict-of ≡ verdict.WellFormed → stopOf chains specified bits ≡ Refused c → SixMeaning chains set
+  unfolding stopOr6
+  refused-means c w e = given (stopFor chains set) refl (sym (call-formed w) ∙ e)
+    where
+      given : (o : Option TestSlice) → stopFor chains set ≡ o → stopOr6 o ≡ Refused c → SixMeaning chains set
+      given none f g = six-means chains set f
+      given (some s) f g = absurd (let z : _≡_ {A = ℕ} 0 1 = cc in omega arith)

@@ -1,0 +1,121 @@
+-- One step, as the code takes it: no slice is in, no position is unset, or the choice is set.
+--     next-empty, next-none, next-some     the stop slice after the step
+--     chosen-unset                         the position of the choice is unset
+--     next-stage                           the steps' stop slice, one step more
+--     form-stop, form-six                  the answer when the steps have ended
+-- Assumes nothing.
+use mathlib.Core.Path.{_≡_, refl, sym, ap, ap₂, _∙_}
+use mathlib.Core.Bool.{Bool, true, false}
+use mathlib.Core.Option.{Option, none, some}
+use mathlib.Core.List.{List, [], _∷_}
+use Prim.Native.Nat.{ℕ, _+_, _-_, _*_, _/_, _%_, _≤_}
+use native.Mathlib.Numerals.{add-one}
+use native.Mathlib.Omega.{arith}
+use lib.ListN.{length}
+use Rattle.slices.specs.declared.TestSlice.{TestSlice}
+use Rattle.slices.specs.Slices.{paired}
+use Rattle.stop.specs.Steps.{count, choice, put, settle, isEmpty, Stage, setBy, advance, stage, ended, stopFor}
+use Rattle.stop.specs.Lookup.{BitsSpecified, inCount}
+use Rattle.stop.specs.Code.{Unset, tracked, inOf, countIn, chosen, nextOf}
+use Rattle.stop.specs.Entry.{stopOr6}
+use Rattle.stop.specs.declared.Best.the-variants.{Nothing, Choice}
+use Rattle.stop.specs.declared.Formed.{Formed}
+use Rattle.stop.specs.declared.Formed.the-variants.{Stop, Refused}
+use Rattle.stop.proofs.Choice.{Chosen, choice-is}
+use Rattle.stop.proofs.Stages.{stage-sound}
+use Rattle.causes.specs.declared.Cause.the-variants as cause
+
+none-in : (l : List TestSlice) → length l ≡ 0 → isEmpty l ≡ true
+none-in [] e = refl
+none-in (x ∷ xs) e = absurd (omega arith)
+
+some-in : (l : List TestSlice) → (length l ≡ 0 → ⊥) → isEmpty l ≡ false
+some-in [] e = absurd (e refl)
+some-in (x ∷ xs) e = refl
+
+-- the stage after a step, by whether a slice is in and by the choice
+abbrev moved : Stage → Bool → Option ℕ → Stage
+moved g b o = elim b [ true ↦ g | false ↦ elim o [ none ↦ g | some q ↦ setBy q g ] ]
+
+advanced : (chains : ℕ) (g : Stage) (b : Bool) (o : Option ℕ) → isEmpty (g .left) ≡ b → choice (g .stop) (λ q. count q (g .left)) (2 * chains) ≡ o → advance chains g ≡ moved g b o
+unfolding advance
+advanced chains g b o e f = ap₂ (moved g) e f
+
+module _ (chains : ℕ) (stop : TestSlice) (specified bits : List ℕ) where
+  abbrev counts : ℕ → ℕ
+  counts = countIn stop specified bits
+
+  abbrev chosen-by : Option ℕ
+  chosen-by = choice stop counts (2 * chains)
+
+  no-choice : chosen chains stop specified bits ≡ Nothing → chosen-by ≡ none
+  unfolding chosen
+  no-choice e = go chosen-by e
+    where
+      go : (o : Option ℕ) → tracked counts o ≡ Nothing → o ≡ none
+      go none e = refl
+      go (some r) e = absurd (let z : _≡_ {A = ℕ} 0 1 = cc in omega arith)
+
+  the-choice : (q n : ℕ) → chosen chains stop specified bits ≡ Choice q n → chosen-by ≡ some q
+  unfolding chosen
+  the-choice q n e = go chosen-by e
+    where
+      go : (o : Option ℕ) → tracked counts o ≡ Choice q n → o ≡ some q
+      go none e = absurd (let z : _≡_ {A = ℕ} 0 1 = cc in omega arith)
+      go (some r) e = cc
+
+  abbrev here : Stage
+  here = record { stop = stop; left = inOf stop specified bits }
+
+  pub next-empty : inCount stop specified bits ≡ 0 → nextOf chains stop specified bits ≡ stop
+  unfolding inCount nextOf
+  next-empty e = ap (λ (g : Stage). g .stop) (advanced chains here _ _ (none-in (inOf stop specified bits) e) refl)
+
+  pub next-none : (inCount stop specified bits ≡ 0 → ⊥) → chosen chains stop specified bits ≡ Nothing → nextOf chains stop specified bits ≡ stop
+  unfolding inCount nextOf
+  next-none f e = ap (λ (g : Stage). g .stop) (advanced chains here _ _ (some-in (inOf stop specified bits) f) (no-choice e))
+
+  pub next-some : (q n : ℕ) → (inCount stop specified bits ≡ 0 → ⊥) → chosen chains stop specified bits ≡ Choice q n
+      → nextOf chains stop specified bits ≡ put (q / 2) (1 - q % 2) stop
+  unfolding inCount nextOf setBy settle
+  next-some q n f e = ap (λ (g : Stage). g .stop) (advanced chains here _ _ (some-in (inOf stop specified bits) f) (the-choice q n e))
+
+  pub chosen-unset : (q n : ℕ) → chains ≤ 64 → BitsSpecified stop → chosen chains stop specified bits ≡ Choice q n → Unset (q / 2) stop
+  chosen-unset q n l f e =
+      let c : Chosen stop counts (2 * chains) q = rw (the-choice q n e) at (choice-is stop counts (2 * chains)) in
+      record { within = omega (arith, c .below); unset = c .unset; specified = f }
+
+module _ (chains : ℕ) (specified bits : List ℕ) where
+  abbrev set : List TestSlice
+  set = paired specified bits
+
+  -- the stage whose slices are looked up
+  looked-up : (k : ℕ) → record { stop = stage chains set k .stop; left = inOf (stage chains set k .stop) specified bits } ≡ stage chains set k
+  looked-up k = ap (λ (l : List TestSlice). record { stop = stage chains set k .stop; left = l }) (stage-sound chains set k .in-left)
+
+  pub stage-specified : (k : ℕ) → BitsSpecified (stage chains set k .stop)
+  stage-specified k = stage-sound chains set k .specified
+
+  pub next-stage : (k : ℕ) → nextOf chains (stage chains set k .stop) specified bits ≡ stage chains set (k + 1) .stop
+  unfolding nextOf stage
+  next-stage k = rw add-one (ap (λ (g : Stage). advance chains g .stop) (looked-up k))
+
+  -- the answer, by whether a slice is in
+  by : List TestSlice → Formed
+  by l = stopOr6 (elim (isEmpty l) [ true ↦ some (stage chains set chains .stop) | false ↦ none ])
+
+  answer : stopOr6 (stopFor chains set) ≡ by (inOf (stage chains set chains .stop) specified bits)
+  unfolding stopFor ended stopOr6 by
+  answer = ap by (sym (stage-sound chains set chains .in-left))
+
+  module _ (stop : TestSlice) (k : ℕ) (here : stop ≡ stage chains set k .stop) (last : k ≡ chains) where
+    ends : stage chains set chains .stop ≡ stop
+    ends = sym (here ∙ rw last)
+
+    pub form-stop : inCount stop specified bits ≡ 0 → Stop stop ≡ stopOr6 (stopFor chains set)
+    unfolding inCount stopOr6 by
+    form-stop e = sym (answer ∙ rw (ends, none-in (inOf stop specified bits) e, by) (ap Stop ends))
+
+    pub form-six : (inCount stop specified bits ≡ 0 → ⊥) → Refused cause.SlicesIn ≡ stopOr6 (stopFor chains set)
+    unfolding inCount stopOr6 by
+    form-six f = sym (answer ∙ rw (ends, some-in (inOf stop specified bits) f, by))

@@ -1,0 +1,23 @@
+-- Whether a slice is still in, looked up: it has the stop's bit at each position set so far (document 02, R-7). That these are the slices that the steps leave in is proved in proofs/Lookup.
+--     BitsSpecified stop                 no bit of the stop slice is set that is not specified
+--     isIn stop t                        the test slice t has the stop's bit at each position of the stop that is set
+--     inCount stop specified bits        how many test slices are in; of two lists unequally long, the shorter counts
+use mathlib.Core.Path.{_≡_}
+use mathlib.Core.Bool.{Bool, _&&_}
+use mathlib.Core.List.{List}
+use Prim.Native.Nat.{ℕ}
+use lib.Bits.{bitAnd}
+use lib.Dec.{eqb}
+use lib.ListN.{length}
+use Rattle.slices.specs.declared.TestSlice.{TestSlice}
+use Rattle.slices.specs.Slices.{shows, paired}
+use Rattle.stop.specs.Steps.{filter}
+
+abbrev pub BitsSpecified : TestSlice → Type 0
+BitsSpecified stop = bitAnd (stop .bits) (stop .specified) ≡ stop .bits
+
+unfoldable pub isIn : TestSlice → TestSlice → Bool
+isIn stop t = eqb (bitAnd (t .specified) (stop .specified)) (stop .specified) && shows stop (t .bits)
+
+unfoldable pub inCount : TestSlice → List ℕ → List ℕ → ℕ
+inCount stop specified bits = length (filter (isIn stop) (paired specified bits))
