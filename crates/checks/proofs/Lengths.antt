@@ -1,12 +1,15 @@
 -- Cause 3, as the code tests it, one test after the other.
 --     cubes-depth, cubes-slices, cubes-rest     a set that comes as cubes
 --     list-slices, list-seeds                   a seed list
+--     set-within, list-within                   what is not refused by it: 1 to 2,048 slices, at most 2,048 seeds
 -- Assumes nothing.
 use mathlib.Core.Path.{_≡_}
 use mathlib.Core.Bool.{true, false, not}
-use Prim.Native.Nat.{ℕ, _%_}
+use Prim.Native.Nat.{ℕ, _%_, _≤_}
 use lib.Dec.{ltb, eqb}
+use borrow.Author.Tests.{ltb-false, not-false}
 use Rattle.bounded.specs.Bounded.{within}
+use Rattle.bounded.proofs.Tests.{neither, within-yes}
 use Rattle.checks.specs.Lengths.{badSet, badCubes, badList}
 
 module _ (depth n : ℕ) where
@@ -22,6 +25,10 @@ module _ (depth n : ℕ) where
   unfolding badCubes
   cubes-rest w b = rw (w, b)
 
+pub set-within : (n : ℕ) → badSet n ≡ false → (1 ≤ n) × (n ≤ 2048)
+unfolding badSet
+set-within n b = within-yes 1 2048 n (not-false (within 1 2048 n) b)
+
 module _ (n seeds : ℕ) where
   pub list-slices : badSet n ≡ true → badList n seeds ≡ true
   unfolding badList
@@ -30,3 +37,7 @@ module _ (n seeds : ℕ) where
   pub list-seeds : badSet n ≡ false → badList n seeds ≡ ltb 2048 seeds
   unfolding badList
   list-seeds b = rw b
+
+  pub list-within : badList n seeds ≡ false → (n ≤ 2048) × (seeds ≤ 2048)
+  unfolding badList
+  list-within b = let p = neither (badSet n) (ltb 2048 seeds) b in (set-within n (p .0) .1, ltb-false 2048 seeds (p .1))

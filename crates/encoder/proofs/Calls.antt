@@ -8,9 +8,7 @@ use Prim.Native.Nat.{ℕ, _≤_}
 use native.Mathlib.Omega.{arith}
 use lib.ListN.{length, take, drop}
 use lib.Seq.{take-at}
-use borrow.Author.Tests.{not-false, le-ltb}
-use Rattle.bounded.specs.Bounded.{within}
-use Rattle.bounded.proofs.Tests.{within-yes}
+use borrow.Author.Tests.{le-ltb}
 use Rattle.causes.specs.declared.Cause.{Cause}
 use Rattle.causes.specs.Outcome.{refuse}
 use Rattle.register.specs.declared.Settings.{Settings}
@@ -24,8 +22,7 @@ use Rattle.checks.specs.Lengths.{badSet}
 use Rattle.checks.specs.Order.{judged}
 use Rattle.checks.specs.Calls.{stoppedFaults, setFaults, listFaults}
 use Rattle.checks.specs.declared.Verdict.{Verdict}
-use Rattle.checks.specs.declared.Verdict.the-variants as verdict
-use Rattle.checks.proofs.Lengths.{list-seeds}
+use Rattle.checks.proofs.Lengths.{set-within, list-seeds}
 use Rattle.checks.proofs.Order.{NoFault, well-formed, formed-well}
 use Rattle.cutting.proofs.Parts.{covering-length, cuts-count}
 use Rattle.covering.specs.Rules.{Rules, rules}
@@ -36,6 +33,7 @@ use Rattle.encoder.specs.Encoding.{encoding, encodeSet}
 use Rattle.encoder.specs.Meaning.{Delivers, Shortest, Listed, Meaning, SetMeaning}
 use Rattle.encoder.proofs.Seeds.{covering-cuts}
 use Rattle.encoder.proofs.Meaning.{encoding-means, list-delivers}
+use Rattle.checks.specs.declared.Verdict.the-variants as verdict
 
 module _ (g : Settings) (masks : List ℕ) (stop : TestSlice) (specified bits : List ℕ) where
   abbrev M : Machine
@@ -59,8 +57,8 @@ module _ (g : Settings) (masks : List ℕ) (stop : TestSlice) (specified bits : 
   set-length w = paired-length specified bits (slices-equal (length masks) specified bits (faultless w .slices))
 
   few-slices : verdict-of ≡ verdict.WellFormed → length specified ≤ 2048
-  unfolding stoppedFaults badSet
-  few-slices w = within-yes 1 2048 (length specified) (not-false (within 1 2048 (length specified)) (faultless w .lengths)) .1
+  unfolding stoppedFaults
+  few-slices w = set-within (length specified) (faultless w .lengths) .1
 
   few-seeds : verdict-of ≡ verdict.WellFormed → (seeds : List ℕ) → Shortest M R set seeds → length seeds ≤ 2048
   few-seeds w seeds l =

@@ -1,4 +1,9 @@
--- What expanding gives of states that cover windows.
+-- What expanding gives of states that cover windows, and how the code comes by it.
 pub mod Agreeing
 pub mod Covered
 pub mod Walks
+pub mod Running
+pub mod Tallying
+pub mod Writing
+pub mod Filling
+pub mod Outcomes

@@ -1,14 +1,17 @@
 -- Causes 1 and 2, as the code tests them, one test after the other.
 --     register-range, register-beyond, register-last     cause 1
 --     chains-count, chains-masks                         cause 2
+--     cells-within, count-within, chains-within          what is not refused by them: 1 to 64 cells, 1 to 64 chains
 -- Assumes nothing.
 use mathlib.Core.Path.{_≡_}
-use mathlib.Core.Bool.{true, false}
+use mathlib.Core.Bool.{true, false, not}
 use mathlib.Core.List.{List}
-use Prim.Native.Nat.{ℕ, _-_}
+use Prim.Native.Nat.{ℕ, _-_, _≤_}
 use lib.Dec.{eqb}
 use lib.ListN.{length}
+use borrow.Author.Tests.{not-false}
 use Rattle.bounded.specs.Bounded.{within, any}
+use Rattle.bounded.proofs.Tests.{neither, within-yes}
 use Rattle.gf2.specs.Words.{digit, beyond}
 use Rattle.register.specs.Register.{badRegister}
 use Rattle.register.specs.Chains.{badCount, badMask, badChains}
@@ -26,6 +29,14 @@ module _ (cells taps : ℕ) where
   unfolding badRegister
   register-last w b = rw (w, b)
 
+  pub cells-within : badRegister cells taps ≡ false → (1 ≤ cells) × (cells ≤ 64)
+  unfolding badRegister
+  cells-within b = within-yes 1 64 cells (not-false (within 1 64 cells) (neither (not (within 1 64 cells)) _ b .0))
+
+pub count-within : (chains : ℕ) → badCount chains ≡ false → (1 ≤ chains) × (chains ≤ 64)
+unfolding badCount
+count-within chains b = within-yes 1 64 chains (not-false (within 1 64 chains) b)
+
 module _ (cells : ℕ) (masks : List ℕ) where
   pub chains-count : badCount (length masks) ≡ true → badChains cells masks ≡ true
   unfolding badChains
@@ -34,3 +45,7 @@ module _ (cells : ℕ) (masks : List ℕ) where
   pub chains-masks : badCount (length masks) ≡ false → badChains cells masks ≡ any (badMask cells) masks
   unfolding badChains
   chains-masks b = rw b
+
+  pub chains-within : badChains cells masks ≡ false → (1 ≤ length masks) × (length masks ≤ 64)
+  unfolding badChains
+  chains-within b = count-within (length masks) (neither (badCount (length masks)) _ b .0)

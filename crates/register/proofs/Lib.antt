@@ -1,4 +1,5 @@
 -- The laws of the register and its chains.
 pub mod Steps
 pub mod Slices
+pub mod Machine
 pub mod Causes

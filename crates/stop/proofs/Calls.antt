@@ -10,16 +10,13 @@ use mathlib.Core.List.{List}
 use Prim.Native.Nat.{ℕ, _≤_, _<_}
 use native.Mathlib.Omega.{arith}
 use lib.ListN.{length}
-use borrow.Author.Tests.{not-false}
-use Rattle.bounded.specs.Bounded.{within}
-use Rattle.bounded.proofs.Tests.{within-yes}
 use Rattle.causes.specs.declared.Cause.{Cause}
-use Rattle.register.specs.Chains.{badCount}
+use Rattle.register.proofs.Causes.{count-within}
 use Rattle.slices.specs.declared.TestSlice.{TestSlice}
 use Rattle.slices.specs.Slices.{paired}
 use Rattle.slices.proofs.Paired.{paired-length}
 use Rattle.slices.proofs.Causes.{slices-equal}
-use Rattle.checks.specs.Lengths.{badSet}
+use Rattle.checks.proofs.Lengths.{set-within}
 use Rattle.checks.specs.Order.{judged}
 use Rattle.checks.specs.Calls.{stopFaults}
 use Rattle.checks.specs.declared.Verdict.{Verdict}
@@ -50,13 +47,13 @@ module _ (chains : ℕ) (specified bits : List ℕ) where
   faultless w = formed-well (stopFaults chains specified bits) w
 
   pub few-chains : verdict-of ≡ verdict.WellFormed → chains ≤ 64
-  unfolding stopFaults badCount
-  few-chains w = within-yes 1 64 chains (not-false (within 1 64 chains) (faultless w .chains)) .1
+  unfolding stopFaults
+  few-chains w = count-within chains (faultless w .chains) .1
 
   some-slice : verdict-of ≡ verdict.WellFormed → 0 < length set
-  unfolding stopFaults badSet
+  unfolding stopFaults
   some-slice w =
-      omega (arith, within-yes 1 2048 (length specified) (not-false (within 1 2048 (length specified)) (faultless w .lengths)) .0, paired-length specified bits (slices-equal chains specified bits (faultless w .slices)))
+      omega (arith, set-within (length specified) (faultless w .lengths) .0, paired-length specified bits (slices-equal chains specified bits (faultless w .slices)))
 
   pub formed-means : (stop : TestSlice) → stopOf chains specified bits ≡ Stop stop → StopMeaning chains set stop
   unfolding stopOr6
