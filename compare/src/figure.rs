@@ -1,5 +1,6 @@
-// Both iterations of document 004's figure 2: the counts as functions give them, and as the second program prints them.
+// Both iterations of document 004's figure 2: the counts as functions give them, as the second program prints them, and as the library counts them.
 
+use crate::library::{self, StopAnswer};
 use crate::report::{same, Outcome};
 
 const SLICES: [&str; 6] = [
@@ -17,9 +18,17 @@ const FIRST_ONES: [u64; 10] = [1, 2, 1, 2, 1, 1, 2, 3, 2, 2];
 const SECOND_ZEROS: [u64; 10] = [1, 0, 0, 0, 0, 0, 0, 0, 1, 1];
 const SECOND_ONES: [u64; 10] = [0, 2, 0, 1, 1, 0, 1, 2, 1, 0];
 
+fn read(text: &str) -> (u64, u64) {
+    second::slice_of(text.as_bytes(), 10).expect("a slice")
+}
+
+/// The figure's slices as two lists.
+fn lists() -> (Vec<u64>, Vec<u64>) {
+    SLICES.iter().map(|text| read(text)).unzip()
+}
+
 pub fn counts() -> Outcome {
-    let read = |text: &str| second::slice_of(text.as_bytes(), 10).expect("a slice");
-    let (specified, bits): (Vec<u64>, Vec<u64>) = SLICES.iter().map(|text| read(text)).unzip();
+    let (specified, bits) = lists();
     let trace = second::stop_trace(10, &specified, &bits)
         .map_err(|r| format!("refused by {}", r.number))?;
     same("the number of iterations", trace.iterations.len(), 2)?;
@@ -62,6 +71,54 @@ pub fn counts() -> Outcome {
         read("x1xxxxx0xx"),
     )?;
     Ok(10)
+}
+
+/// The counts of both iterations by the library, and its stop slice.
+pub fn by_library() -> Outcome {
+    let (specified, bits) = lists();
+    let trace = second::stop_trace(10, &specified, &bits)
+        .map_err(|r| format!("refused by {}", r.number))?;
+    let figure = [[FIRST_ZEROS, FIRST_ONES], [SECOND_ZEROS, SECOND_ONES]];
+    same("iterations", trace.iterations.len(), figure.len())?;
+    let mut still_in: Vec<usize> = (0..SLICES.len()).collect();
+    let (mut stop, mut count) = ((0, 0), 1);
+    for (step, printed) in trace.iterations.iter().zip(figure) {
+        same("0s of the figure", &step.zeros[..], &printed[0][..])?;
+        same("1s of the figure", &step.ones[..], &printed[1][..])?;
+        count += 2 + iteration(stop, &still_in, printed)?;
+        still_in.retain(|place| !step.removed.contains(place));
+        stop.0 |= 1 << (step.position - 1);
+        stop.1 |= step.bit << (step.position - 1);
+    }
+    let told = read("x1xxxxx0xx");
+    same("the stop slice set", stop, told)?;
+    let ours = library::stop(10, &specified, &bits);
+    same("the library's stop slice", ours, StopAnswer::from(Ok(told)))?;
+    Ok(count + 2)
+}
+
+/// Each count of an iteration by the library: over the slices still in, and over all with the stop slice so far and the position set to the bit.
+/// At a position set to the other bit there is no such stop slice.
+fn iteration(stop: (u64, u64), still_in: &[usize], printed: [[u64; 10]; 2]) -> Outcome {
+    let (specified, bits) = lists();
+    let pick = |list: &[u64]| still_in.iter().map(|&place| list[place]).collect();
+    let (in_specified, in_bits): (Vec<u64>, Vec<u64>) = (pick(&specified), pick(&bits));
+    let mut count = 0;
+    for (place, weight) in (0..10).map(|place| (place, 1 << place)) {
+        for (bit, set) in [(0, 0), (1, weight)] {
+            let what = format!("{bit}s at position {} with the stop {stop:x?}", place + 1);
+            let told = printed[bit][place] as usize;
+            let ours = library::count_in((weight, set), &in_specified, &in_bits);
+            same(&what, ours, told)?;
+            count += 1;
+            if stop.0 & weight == 0 || stop.1 & weight == set {
+                let next = (stop.0 | weight, stop.1 | set);
+                same(&what, library::count_in(next, &specified, &bits), told)?;
+                count += 1;
+            }
+        }
+    }
+    Ok(count)
 }
 
 /// The numbers of each counted line that the program prints, in order.

@@ -1,6 +1,50 @@
 // The proved library's entries, as safe functions and methods of a call. The declarations follow crates/seeds/src/lib.rt: a slice is a pointer and a length.
 
 use crate::call::Call;
+use second::Refused;
+
+/// An answer with a buffer: number 0 and the entries written, or a refusal's number and value.
+#[repr(C)]
+#[derive(Debug, PartialEq)]
+pub struct Answer {
+    number: usize,
+    value: usize,
+}
+
+/// A stop slice, with number and value 0; or a refusal's number and value, with a stop slice of 0 and 0.
+#[repr(C)]
+#[derive(Debug, PartialEq)]
+pub struct StopAnswer {
+    number: usize,
+    value: usize,
+    specified: u64,
+    bits: u64,
+}
+
+/// The second program's answer as the library gives it.
+impl From<Result<usize, Refused>> for Answer {
+    fn from(told: Result<usize, Refused>) -> Answer {
+        let (number, value) = match told {
+            Ok(count) => (0, count),
+            Err(refused) => (refused.number as usize, refused.value as usize),
+        };
+        Answer { number, value }
+    }
+}
+
+/// The second program's answer as the library gives it.
+impl From<Result<(u64, u64), Refused>> for StopAnswer {
+    fn from(told: Result<(u64, u64), Refused>) -> StopAnswer {
+        let (specified, bits) = told.unwrap_or((0, 0));
+        let Answer { number, value } = told.map(|_| 0).into();
+        StopAnswer {
+            number,
+            value,
+            specified,
+            bits,
+        }
+    }
+}
 
 extern "C" {
     fn seeds_step(cells: usize, taps: u64, state: u64) -> u64;
@@ -59,6 +103,34 @@ extern "C" {
         slices: usize,
         seeds: usize,
     ) -> usize;
+    fn seeds_count_in(
+        stop_specified: u64,
+        stop_bits: u64,
+        specified: *const u64,
+        specified_len: usize,
+        bits: *const u64,
+        bits_len: usize,
+    ) -> usize;
+    fn seeds_stop(
+        chains: usize,
+        specified: *const u64,
+        specified_len: usize,
+        bits: *const u64,
+        bits_len: usize,
+    ) -> StopAnswer;
+    fn seeds_expand(
+        cells: usize,
+        taps: u64,
+        masks: *const u64,
+        chains: usize,
+        stop_specified: u64,
+        stop_bits: u64,
+        slices: usize,
+        seeds: *const u64,
+        seeds_len: usize,
+        out: *mut u64,
+        out_len: usize,
+    ) -> Answer;
 }
 
 pub fn step(cells: usize, taps: u64, state: u64) -> u64 {
@@ -75,6 +147,32 @@ pub fn agrees(specified: u64, bits: u64, slice: u64) -> bool {
 
 pub fn shows(stop: (u64, u64), slice: u64) -> bool {
     unsafe { seeds_shows(stop.0, stop.1, slice) }
+}
+
+/// How many test slices have the stop's bit specified at each of its specified positions.
+pub fn count_in(stop: (u64, u64), specified: &[u64], bits: &[u64]) -> usize {
+    unsafe {
+        seeds_count_in(
+            stop.0,
+            stop.1,
+            specified.as_ptr(),
+            specified.len(),
+            bits.as_ptr(),
+            bits.len(),
+        )
+    }
+}
+
+pub fn stop(chains: usize, specified: &[u64], bits: &[u64]) -> StopAnswer {
+    unsafe {
+        seeds_stop(
+            chains,
+            specified.as_ptr(),
+            specified.len(),
+            bits.as_ptr(),
+            bits.len(),
+        )
+    }
 }
 
 impl Call {
@@ -151,6 +249,25 @@ impl Call {
                 self.stop.1,
                 self.slices,
                 self.seeds.len(),
+            )
+        }
+    }
+
+    /// The expanding of the call's own seeds.
+    pub fn expanded(&self, out: &mut [u64]) -> Answer {
+        unsafe {
+            seeds_expand(
+                self.cells,
+                self.taps,
+                self.masks.as_ptr(),
+                self.masks.len(),
+                self.stop.0,
+                self.stop.1,
+                self.slices,
+                self.seeds.as_ptr(),
+                self.seeds.len(),
+                out.as_mut_ptr(),
+                out.len(),
             )
         }
     }

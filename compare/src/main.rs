@@ -1,8 +1,9 @@
-// The test program: the proved library's leaves, document 01's bench examples and document 004's figure 2, against the second program.
+// The test program: the proved library, document 01's bench examples and document 004's figure 2, against the second program.
 // Prints a line for each case and ends with `N passed, M failed`.
 
 mod bench;
 mod call;
+mod expands;
 mod figure;
 mod inputs;
 mod leaves;
@@ -10,7 +11,9 @@ mod library;
 mod random;
 mod report;
 mod sample;
+mod seen;
 mod small;
+mod stops;
 
 use report::Report;
 use std::io::Write;
@@ -65,6 +68,7 @@ fn main() -> ExitCode {
     report.case("bench examples, limits", bench::limits());
     report.case("figure 2, counted", figure::counts());
     report.case("figure 2, printed", figure::printed(second_program));
+    report.case("figure 2, counted by the library", figure::by_library());
     report.case("small sets against brute force", small::sets());
     report.case("small windows against brute force", small::windows());
     report.case("small sets encoded and expanded", small::round_trips());
@@ -73,6 +77,9 @@ fn main() -> ExitCode {
     report.case("library: agreeing and showing", leaves::agreeing());
     report.case("library: checks of small calls", leaves::checks());
     report.case("library: checks of wide calls", leaves::wide_checks());
+    report.case("library: counts of slices in", stops::counts());
+    report.case("library: stop slice", stops::answers());
+    report.case("library: expanding", expands::answers());
     if report.end() {
         ExitCode::SUCCESS
     } else {

@@ -45,4 +45,19 @@ impl Random {
         }
         word
     }
+
+    /// A word of one bit at or above `width`, or 0 where a word has none there.
+    pub fn beyond(&mut self, width: usize) -> u64 {
+        match width {
+            64.. => 0,
+            _ => 1 << self.between(width, 63),
+        }
+    }
+
+    /// Puts the items in any order.
+    pub fn shuffle<T>(&mut self, items: &mut [T]) {
+        for place in (1..items.len()).rev() {
+            items.swap(place, self.between(0, place));
+        }
+    }
 }

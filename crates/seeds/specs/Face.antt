@@ -2,12 +2,20 @@
 --     registerOf cells taps         the register of two numbers
 --     testSliceOf specified bits    the test slice or stop slice of two numbers
 --     numberOf verdict              the number of document 01's refusal sheet, or 0 where nothing is refused
+--     answerOf written              number 0 with the entries written, or the number and value of the refusal
+--     stopAnswerOf formed           number 0 with the stop slice, or the number and value of the refusal, and no position
 use Prim.Native.Nat.{ℕ}
 use Rattle.causes.specs.Sheet.{refusalOf}
 use Rattle.register.specs.declared.Register.{Register}
 use Rattle.slices.specs.declared.TestSlice.{TestSlice}
+use Rattle.causes.specs.declared.Written.{Written}
+use Rattle.causes.specs.declared.Written.the-variants as written
 use Rattle.checks.specs.declared.Verdict.{Verdict}
 use Rattle.checks.specs.declared.Verdict.the-variants.{WellFormed, Refused}
+use Rattle.stop.specs.declared.Formed.{Formed}
+use Rattle.stop.specs.declared.Formed.the-variants as formed
+use Rattle.seeds.specs.declared.Answer.{Answer}
+use Rattle.seeds.specs.declared.StopAnswer.{StopAnswer}
 
 abbrev pub registerOf : ℕ → ℕ → Register
 registerOf cells taps = record { cells = cells; taps = taps }
@@ -18,3 +26,11 @@ testSliceOf specified bits = record { specified = specified; bits = bits }
 abbrev pub numberOf : Verdict → ℕ
 numberOf WellFormed = 0
 numberOf (Refused c) = refusalOf c .number
+
+abbrev pub answerOf : Written → Answer
+answerOf (written.Count n) = record { number = 0; value = n }
+answerOf (written.Refused c) = record { number = refusalOf c .number; value = refusalOf c .value }
+
+abbrev pub stopAnswerOf : Formed → StopAnswer
+stopAnswerOf (formed.Stop stop) = record { number = 0; value = 0; specified = stop .specified; bits = stop .bits }
+stopAnswerOf (formed.Refused c) = record { number = refusalOf c .number; value = refusalOf c .value; specified = 0; bits = 0 }

@@ -1,7 +1,9 @@
 // The library's face for C and Rust: entries without `requires`, each a few lines over the crates below.
+use causes::Written;
 use checks::Verdict;
 use register::Register;
 use slices::TestSlice;
+use stop::Formed;
 ghost use mathlib.Core.Path.{_≡_};
 ghost use lib.ListN.{take};
 ghost use Rattle.register.specs.Register.{stepOf};
@@ -10,7 +12,26 @@ ghost use Rattle.register.specs.Chains.{slice as sliceOf};
 ghost use Rattle.slices.specs.Slices.{agrees, shows};
 ghost use Rattle.checks.specs.Order.{judged};
 ghost use Rattle.checks.specs.Calls.{windowFaults, setFaults, cubesFaults, stopFaults, listFaults};
-ghost use Rattle.seeds.specs.Face.{registerOf, testSliceOf, numberOf};
+ghost use Rattle.stop.specs.Lookup.{inCount};
+ghost use Rattle.stop.specs.Entry.{stopOf};
+ghost use Rattle.expander.specs.Expanding.{expandList};
+ghost use Rattle.seeds.specs.Face.{registerOf, testSliceOf, numberOf, answerOf, stopAnswerOf};
+
+// The answer of a call that writes into a lent buffer: number 0 with the entries written, or the number and value of the refusal.
+#[repr(C)]
+pub struct Answer {
+    pub number: usize,
+    pub value: usize,
+}
+
+// The answer of the call for a stop slice: number 0 with the stop slice, or the number and value of the refusal, and no position.
+#[repr(C)]
+pub struct StopAnswer {
+    pub number: usize,
+    pub value: usize,
+    pub specified: u64,
+    pub bits: u64,
+}
 
 // One step of the register from a state; of more than 64 cells the first 64 count.
 #[no_mangle]
@@ -143,4 +164,93 @@ pub extern "C" fn seeds_check_list(
         bits: stop_bits,
     };
     number(checks::check_list(register::base(cells, taps), masks, stop, slices, seeds))
+}
+
+// The number and value of a call that writes.
+fn answer_of(written: Written) -> Answer
+    ensures { λ r. ⌜ r ≡ answerOf written ⌝ }
+{
+    match written {
+        Written::Count(count) => Answer {
+            number: 0,
+            value: count,
+        },
+        Written::Refused(cause) => {
+            let refusal = causes::refusal_of(cause);
+            Answer {
+                number: refusal.number,
+                value: refusal.value,
+            }
+        }
+    }
+}
+
+// The number, value and stop slice of a call for one.
+fn stop_answer_of(formed: Formed) -> StopAnswer
+    ensures { λ r. ⌜ r ≡ stopAnswerOf formed ⌝ }
+{
+    match formed {
+        Formed::Stop(stop) => StopAnswer {
+            number: 0,
+            value: 0,
+            specified: stop.specified,
+            bits: stop.bits,
+        },
+        Formed::Refused(cause) => {
+            let refusal = causes::refusal_of(cause);
+            StopAnswer {
+                number: refusal.number,
+                value: refusal.value,
+                specified: 0,
+                bits: 0,
+            }
+        }
+    }
+}
+
+// How many test slices have the stop's bit at each position of the stop that is set; of two lists unequally long, the shorter counts.
+#[no_mangle]
+pub extern "C" fn seeds_count_in(
+    stop_specified: u64,
+    stop_bits: u64,
+    specified: &[u64],
+    bits: &[u64],
+) -> usize
+    ensures { λ r. ⌜ r ≡ inCount (testSliceOf «stop_specified» «stop_bits») (now (specified .entry)) (now (bits .entry)) ⌝ }
+{
+    let stop = TestSlice {
+        specified: stop_specified,
+        bits: stop_bits,
+    };
+    stop::count_in(stop, specified, bits)
+}
+
+// The stop slice of a set: causes 2, 3, 4, then 6.
+#[no_mangle]
+pub extern "C" fn seeds_stop(chains: usize, specified: &[u64], bits: &[u64]) -> StopAnswer
+    ensures { λ r. ⌜ r ≡ stopAnswerOf (stopOf chains (now (specified .entry)) (now (bits .entry))) ⌝ }
+{
+    stop_answer_of(stop::stop_slice(chains, specified, bits))
+}
+
+// The slices of a seed list, written into the buffer: causes 1, 2, 3, 5, then 10, 11, 12 of the first refused seed, then 14, then 9.
+#[no_mangle]
+pub extern "C" fn seeds_expand(
+    cells: usize,
+    taps: u64,
+    masks: &[u64],
+    stop_specified: u64,
+    stop_bits: u64,
+    slices: usize,
+    seeds: &[u64],
+    out: &mut [u64],
+) -> Answer
+    ensures answer { λ r. ⌜ r ≡ answerOf (expandList (base cells taps) (now (masks .entry)) (testSliceOf «stop_specified» «stop_bits») slices (now (seeds .entry)) (now (out .entry)) .answer) ⌝ }
+    ensures buffer { λ _. ⌜ now (out .exit) ≡ expandList (base cells taps) (now (masks .entry)) (testSliceOf «stop_specified» «stop_bits») slices (now (seeds .entry)) (now (out .entry)) .buffer ⌝ }
+{
+    let stop = TestSlice {
+        specified: stop_specified,
+        bits: stop_bits,
+    };
+    answer_of(expander::expand_list(cells, taps, masks, stop, slices, seeds, out))
 }

@@ -1,5 +1,5 @@
 -- `expander::expand_formed` meets its contract. Assumes nothing.
-use mathlib.Core.Path.{_≡_, _∙_}
+use mathlib.Core.Path.{_≡_, sym, _∙_}
 use native.Mathlib.Omega.{arith}
 use borrow.Author.Needs.{needs}
 use Rattle.causes.specs.declared.Written.the-variants.{Count, Refused}
@@ -25,7 +25,7 @@ returns c =
     let a = c .before .before .before .before .before .before .before .before .args in
     let e = c .before .before .before .before .total-of .ensures (a .slices) in
     let t = c .before .before .found2 .given .0 .0 in
-    let k : tally 0 (walk (machine (a .settings) (a .masks .now)) (rules (a .settings) (a .stop)) (a .slices) 0 0 (a .seeds .now)) ≡ Count t = cc in
+    let k : tally 0 (walk (machine (a .settings) (a .masks .now)) (rules (a .settings) (a .stop)) (a .slices) 0 0 (a .seeds .now)) ≡ Count t = sym e ∙ c .before .before .found2 .given .1 in
     refused-parts _ _ _ (found-other _ _ _ _ _ t (found _ _ _ _ (a .out .now) t k) (c .if1 .taken))
 
 returns-2 : tie.Need-returns-2
@@ -33,7 +33,7 @@ returns-2 c =
     let a = c .before .before .before .before .before .before .before .before .before .args in
     let e = c .before .before .before .before .before .total-of .ensures (a .slices) in
     let t = c .before .before .before .found2 .given .0 .0 in
-    let k : tally 0 (walk (machine (a .settings) (a .masks .now)) (rules (a .settings) (a .stop)) (a .slices) 0 0 (a .seeds .now)) ≡ Count t = cc in
+    let k : tally 0 (walk (machine (a .settings) (a .masks .now)) (rules (a .settings) (a .stop)) (a .slices) 0 0 (a .seeds .now)) ≡ Count t = sym e ∙ c .before .before .before .found2 .given .1 in
     refused-parts _ _ _ (found-short _ _ _ _ _ t (found _ _ _ _ (a .out .now) t k) (c .before .if1 .left) (c .if2 .taken))
 
 write-all-requires : tie.Need-write-all-requires
@@ -44,7 +44,7 @@ returns-3 c =
     let a = c .before .before .before .before .before .before .before .args in
     let e = c .before .before .before .total-of .ensures (a .slices) in
     let x = c .before .found .given .0 .0 in
-    let k : tally 0 (walk (machine (a .settings) (a .masks .now)) (rules (a .settings) (a .stop)) (a .slices) 0 0 (a .seeds .now)) ≡ Refused x = cc in
+    let k : tally 0 (walk (machine (a .settings) (a .masks .now)) (rules (a .settings) (a .stop)) (a .slices) 0 0 (a .seeds .now)) ≡ Refused x = sym e ∙ c .before .found .given .1 in
     refused-parts _ _ _ (found-refused _ _ _ _ _ x k)
 
 same-length : tie.Need-same-length
@@ -55,7 +55,7 @@ returns-4 c =
     let a = c .before .before .before .before .before .before .before .before .before .before .before .before .before .args in
     let e = c .before .before .before .before .before .before .before .before .before .total-of .ensures (a .slices) in
     let t = c .before .before .before .before .before .before .before .found2 .given .0 .0 in
-    let k : tally 0 (walk (machine (a .settings) (a .masks .now)) (rules (a .settings) (a .stop)) (a .slices) 0 0 (a .seeds .now)) ≡ Count t = cc in
+    let k : tally 0 (walk (machine (a .settings) (a .masks .now)) (rules (a .settings) (a .stop)) (a .slices) 0 0 (a .seeds .now)) ≡ Count t = sym e ∙ c .before .before .before .before .before .before .before .found2 .given .1 in
     let f = found _ _ _ _ (a .out .now) t k in
     let p = outcome-parts _ _ _ (found-whole _ _ _ _ _ t f (c .before .before .before .before .before .if1 .left) (c .before .before .before .before .if2 .left)) in
     (p .0, c .before .before .write-all .ensures (a .slices) (f .slices) (f .walks) (omega (arith, f .count, c .before .before .before .before .if2 .left)) ∙ p .1)

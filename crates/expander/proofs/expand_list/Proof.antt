@@ -31,7 +31,7 @@ expand-formed-requires : tie.Need-expand-formed-requires
 expand-formed-requires c κs =
     let a = c .before .before .before .before .before .before .before .before .args in
     let g = c .before .before .before .before .base in
-    let w : judged (listFaults (g .result) (a .masks .now) (a .stop) (a .slices) (length (a .seeds .now))) ≡ verdict.WellFormed = cc in
+    let w : judged (listFaults (g .result) (a .masks .now) (a .stop) (a .slices) (length (a .seeds .now))) ≡ verdict.WellFormed = sym (c .before .before .before .check-list .ensures) ∙ c .before .enum-told .given .1 in
     let l : g .result .limit ≤ 256 = omega (arith, ap (λ (s : Settings). s .limit) (g .ensures)) in
     (call-ready _ _ _ _ (a .seeds .now) (a .out .now) w l, few-seeds (g .result) (a .masks .now) (a .stop) (a .slices) (a .seeds .now) (a .out .now) w)
 
@@ -40,7 +40,7 @@ returns c =
     let a = c .before .before .before .before .before .before .before .before .args in
     let g = c .before .before .before .before .base in
     let x = c .before .verdict .given .0 .0 in
-    let w : judged (listFaults (base (a .cells) (a .taps)) (a .masks .now) (a .stop) (a .slices) (length (a .seeds .now))) ≡ verdict.Refused x = cc in
+    let w : judged (listFaults (base (a .cells) (a .taps)) (a .masks .now) (a .stop) (a .slices) (length (a .seeds .now))) ≡ verdict.Refused x = ap (λ (s : Settings). judged (listFaults s (a .masks .now) (a .stop) (a .slices) (length (a .seeds .now)))) (sym (g .ensures)) ∙ sym (c .before .before .before .check-list .ensures) ∙ c .before .verdict .given .1 in
     refused-parts _ _ _ (call-refused _ _ _ _ (a .seeds .now) (a .out .now) x w)
 
 same-length : tie.Need-same-length
@@ -50,7 +50,7 @@ returns-2 : tie.Need-returns-2
 returns-2 c =
     let a = c .before .before .before .before .before .before .before .before .before .before .before .args in
     let g = c .before .before .before .before .before .before .before .base in
-    let w : judged (listFaults (g .result) (a .masks .now) (a .stop) (a .slices) (length (a .seeds .now))) ≡ verdict.WellFormed = cc in
+    let w : judged (listFaults (g .result) (a .masks .now) (a .stop) (a .slices) (length (a .seeds .now))) ≡ verdict.WellFormed = sym (c .before .before .before .before .before .before .check-list .ensures) ∙ c .before .before .before .before .enum-told .given .1 in
     let q = ap (λ (s : Settings). expandList s (a .masks .now) (a .stop) (a .slices) (a .seeds .now) (a .out .now)) (sym (g .ensures)) ∙ call-formed (g .result) (a .masks .now) (a .stop) (a .slices) (a .seeds .now) (a .out .now) w in
     (c .before .before .expand-formed .ensures .0 ∙ sym (ap (λ (o : Outcome). o .answer) q), c .before .before .expand-formed .ensures .1 ∙ sym (ap (λ (o : Outcome). o .buffer) q))
 

@@ -30,14 +30,14 @@ put-requires : tie.Need-put-requires
 put-requires c κs =
     let s = c .before .before .before .before .before .before .before .before in
     let b = c .before .best .given .0 in
-    let e : chosen (s .args .chains) (s .args .stop) (s .args .specified .now) (s .args .bits .now) ≡ Choice (b .0) (b .1 .0) = cc in
+    let e : chosen (s .args .chains) (s .args .stop) (s .args .specified .now) (s .args .bits .now) ≡ Choice (b .0) (b .1 .0) = sym (c .before .before .before .choose .ensures) ∙ c .before .best .given .1 in
     (chosen-unset _ _ _ _ _ _ (s .pre .0) (s .pre .1) e, omega arith)
 
 returns-2 : tie.Need-returns-2
 returns-2 c =
     let s = c .before .before .before .before .before .before .before in
     let n = c .before .before .before in
-    let e : chosen (s .args .chains) (s .args .stop) (s .args .specified .now) (s .args .bits .now) ≡ Nothing = cc in
+    let e : chosen (s .args .chains) (s .args .stop) (s .args .specified .now) (s .args .bits .now) ≡ Nothing = sym (c .before .before .choose .ensures) ∙ c .enum-told .given .1 in
     sym (next-none _ _ _ _ (λ z. n .if1 .left (n .before .count-in .ensures ∙ z)) e)
 
 returns-3 : tie.Need-returns-3
@@ -45,7 +45,7 @@ returns-3 c =
     let s = c .before .before .before .before .before .before .before .before .before in
     let b = c .before .before .best .given .0 in
     let n = c .before .before .before .before .before in
-    let e : chosen (s .args .chains) (s .args .stop) (s .args .specified .now) (s .args .bits .now) ≡ Choice (b .0) (b .1 .0) = cc in
+    let e : chosen (s .args .chains) (s .args .stop) (s .args .specified .now) (s .args .bits .now) ≡ Choice (b .0) (b .1 .0) = sym (c .before .before .before .before .choose .ensures) ∙ c .before .before .best .given .1 in
     c .put .ensures ∙ sym (next-some _ _ _ _ _ _ (λ z. n .if1 .left (n .before .count-in .ensures ∙ z)) e)
 
 pub next-spec : {M : Type 1} → statement M

@@ -21,20 +21,20 @@ enum-told c = search needs
 form-requires : tie.Need-form-requires
 form-requires c κs =
     let a = c .before .before .before .before .before .args in
-    let w : judged (stopFaults (a .chains) (a .specified .now) (a .bits .now)) ≡ verdict.WellFormed = cc in
+    let w : judged (stopFaults (a .chains) (a .specified .now) (a .bits .now)) ≡ verdict.WellFormed = sym (c .before .before .check-stop .ensures) ∙ c .enum-told .given .1 in
     few-chains _ _ _ w
 
 returns : tie.Need-returns
 returns c =
     let a = c .before .before .before .before .before .before .args in
     let x = c .before .verdict .given .0 .0 in
-    let w : judged (stopFaults (a .chains) (a .specified .now) (a .bits .now)) ≡ verdict.Refused x = cc in
+    let w : judged (stopFaults (a .chains) (a .specified .now) (a .bits .now)) ≡ verdict.Refused x = sym (c .before .before .before .check-stop .ensures) ∙ c .before .verdict .given .1 in
     sym (call-refused _ _ _ x w)
 
 returns-2 : tie.Need-returns-2
 returns-2 c =
     let a = c .before .before .before .before .before .before .args in
-    let w : judged (stopFaults (a .chains) (a .specified .now) (a .bits .now)) ≡ verdict.WellFormed = cc in
+    let w : judged (stopFaults (a .chains) (a .specified .now) (a .bits .now)) ≡ verdict.WellFormed = sym (c .before .before .before .check-stop .ensures) ∙ c .before .enum-told .given .1 in
     c .form .ensures ∙ sym (call-formed _ _ _ w)
 
 pub stop-slice-spec : {M : Type 1} → statement M

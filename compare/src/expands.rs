@@ -1,0 +1,413 @@
+// The library's expanding of seed lists against the second program's: the answer, and every entry of the lent buffer.
+
+use crate::call::Call;
+use crate::inputs::lawful;
+use crate::library::Answer;
+use crate::random::Random;
+use crate::report::{same, Outcome};
+use crate::seen::Seen;
+use second::Refused;
+
+/// Entries on each side of a lent buffer that are no part of it.
+const MARGIN: usize = 2;
+
+/// Notes the second program's answer, and of a refused seed where it stands in its list.
+fn note(call: &Call, told: &Result<usize, Refused>, seen: &mut Seen) {
+    seen.answer(told);
+    if let Err(Refused {
+        number: number @ 10..=12,
+        value,
+    }) = told
+    {
+        let (place, last) = (*value as usize, call.seeds.len() - 1);
+        let first = if place == 0 { "first" } else { "later" };
+        let end = if place == last { "last" } else { "not last" };
+        seen.note(&format!("refusal {number}, {first}, {end}"));
+    }
+}
+
+/// One call with a lent buffer of `room` random words. The entries on its sides are compared too.
+fn compare(random: &mut Random, call: &Call, room: usize, seen: &mut Seen) -> Outcome {
+    let lent: Vec<u64> = (0..room + 2 * MARGIN).map(|_| random.word()).collect();
+    let (mut ours, mut theirs) = (lent.clone(), lent.clone());
+    let buffer = MARGIN..MARGIN + room;
+    let told = call.expand(&call.seeds, &mut theirs[buffer.clone()]);
+    let answer = call.expanded(&mut ours[buffer]);
+    note(call, &told, seen);
+    let with = |why: String| format!("{why}, {room} entries lent to {call:x?}");
+    same("the answer", answer, Answer::from(told)).map_err(with)?;
+    if told.is_err() && theirs != lent {
+        return Err(with("the second program writes on refusal".into()));
+    }
+    for (place, (ours, theirs)) in ours.iter().zip(&theirs).enumerate() {
+        if ours != theirs {
+            let why = format!(
+                "entry {place} of {MARGIN} + {room} + {MARGIN}: {ours:x} against {theirs:x}"
+            );
+            return Err(with(why));
+        }
+    }
+    Ok(2)
+}
+
+/// One list with buffers of exactly the size, one entry short, empty, one entry longer and much longer.
+fn compare_rooms(random: &mut Random, call: &Call, total: usize, seen: &mut Seen) -> Outcome {
+    let long = 2 * total + random.between(2, 300);
+    let mut count = 0;
+    for room in [total, total.saturating_sub(1), 0, total + 1, long] {
+        count += compare(random, call, room, seen)?;
+    }
+    Ok(count)
+}
+
+/// A lawful call with states to take its seeds from, and what the second program says to each alone.
+struct Pool {
+    call: Call,
+    /// States that run into the stop, with the number of their slices.
+    running: Vec<(u64, usize)>,
+    /// Seeds that are refused, with the number of their refusal.
+    refused: Vec<(u64, u64)>,
+}
+
+/// What the second program says to a seed alone: its number of slices, or its refusal. No seed alone comes to 2,048 slices.
+fn alone(call: &Call, seed: u64) -> Result<usize, u64> {
+    let one = Call {
+        slices: second::MOST_SLICES,
+        ..call.clone()
+    };
+    match one.expand(&[seed], &mut []) {
+        Err(refused) if refused.number == 14 => Ok(refused.value as usize),
+        Err(refused) => Err(refused.number),
+        Ok(count) => Ok(count),
+    }
+}
+
+impl Pool {
+    fn new(call: Call, seeds: &[u64]) -> Pool {
+        let (mut running, mut refused) = (Vec::new(), Vec::new());
+        for &seed in seeds {
+            match alone(&call, seed) {
+                Ok(slices) => running.push((seed, slices)),
+                Err(number) => refused.push((seed, number)),
+            }
+        }
+        Pool {
+            call,
+            running,
+            refused,
+        }
+    }
+
+    /// The call with up to `most` seeds that run, now and then with none, and their total.
+    fn list(&self, random: &mut Random, most: usize) -> (Call, usize) {
+        let mut call = self.call.clone();
+        call.seeds.clear();
+        let mut total = 0;
+        if !self.running.is_empty() && !random.one_in(10) {
+            for _ in 0..random.between(1, most) {
+                let (seed, slices) = self.running[random.between(0, self.running.len() - 1)];
+                call.seeds.push(seed);
+                total += slices;
+            }
+        }
+        call.slices = total;
+        (call, total)
+    }
+}
+
+/// Registers whose stop slice is shown some steps after a random state; the states in between are among the pool's.
+fn pool(random: &mut Random, most_cells: usize, most_chains: usize) -> Pool {
+    let mut call = lawful(random, most_cells, most_chains, 1);
+    let (cells, chains) = (call.cells, call.masks.len());
+    let mut seeds = vec![0];
+    let mut state = random.bits(cells);
+    let steps = [1, 5, 20, 290][random.between(0, 3)];
+    for left in (1..=steps).rev() {
+        if left == 1 || random.one_in(4) {
+            seeds.push(state);
+        }
+        state = second::step(cells as u64, call.taps, state);
+    }
+    let percent = [15, 40, 100][random.between(0, 2)];
+    let specified = random.sparse(chains, percent).max(1);
+    call.stop = (specified, second::slice(&call.masks, state) & specified);
+    seeds.push(state);
+    for place in 0..14 {
+        let far = if place < 2 { random.beyond(cells) } else { 0 };
+        seeds.push(random.bits(cells) | far);
+    }
+    Pool::new(call, &seeds)
+}
+
+/// Puts a refused seed first, in the middle, last or anywhere.
+fn put(random: &mut Random, seeds: &mut Vec<u64>, seed: u64) -> usize {
+    let last = seeds.len();
+    let place = [0, last / 2, last, random.between(0, last)][random.between(0, 3)];
+    seeds.insert(place, seed);
+    place
+}
+
+/// Puts one refused seed into a list, or two, and gives the numbers of two in the order of their places.
+fn put_refused(random: &mut Random, pool: &Pool, call: &mut Call) -> Option<(u64, u64)> {
+    if pool.refused.is_empty() {
+        return None;
+    }
+    let any = |random: &mut Random| pool.refused[random.between(0, pool.refused.len() - 1)];
+    let (one, other) = (any(random), any(random));
+    let place = put(random, &mut call.seeds, one.0);
+    if random.one_in(2) {
+        return None;
+    }
+    if put(random, &mut call.seeds, other.0) <= place {
+        Some((other.1, one.1))
+    } else {
+        Some((one.1, other.1))
+    }
+}
+
+/// One list with a refused seed or two, where it can be.
+fn compare_refused(random: &mut Random, pool: &Pool, seen: &mut Seen) -> Outcome {
+    let (mut call, total) = pool.list(random, 7);
+    if let Some((first, later)) = put_refused(random, pool, &mut call) {
+        let told = call.expand(&call.seeds, &mut []);
+        if told.is_err_and(|refused| refused.number == first) {
+            seen.note(&format!("{first} before {later}"));
+        }
+    }
+    compare_rooms(random, &call, total, seen)
+}
+
+/// A stop slice with no specified position, with a bit where it is unspecified, or with a bit beyond the chains.
+fn damage_stop(random: &mut Random, call: &mut Call) {
+    let chains = call.masks.len();
+    let inside = 1 << random.between(0, chains.clamp(1, 64) - 1);
+    let far = random.beyond(chains);
+    match random.below(5) {
+        0 => call.stop.0 = 0,
+        1 => call.stop = (0, 0),
+        2 => {
+            call.stop.0 &= !inside;
+            call.stop.1 |= inside;
+        }
+        3 => call.stop.0 |= far,
+        _ => {
+            call.stop.0 |= far;
+            call.stop.1 |= far;
+        }
+    }
+}
+
+/// Damages one part of a list: register, chains, total, number of seeds or stop slice.
+fn damage(random: &mut Random, call: &mut Call) {
+    let far = random.beyond(call.cells);
+    let place = random.between(0, call.masks.len().max(1) - 1);
+    match random.below(10) {
+        0 => call.cells = [0, 65, call.cells | 1 << 32, usize::MAX][random.between(0, 3)],
+        1 => call.taps |= far,
+        2 => call.taps &= random.bits(call.cells.saturating_sub(1)),
+        3 => call.masks.clear(),
+        4 => call.masks.resize(65, 1),
+        5 => {
+            if let Some(mask) = call.masks.get_mut(place) {
+                *mask = [0, *mask | far][random.between(0, 1)];
+            }
+        }
+        6 => call.slices = [0, 2_049, call.slices | 1 << 32, usize::MAX][random.between(0, 3)],
+        7 => call.seeds.resize(2_049, 1),
+        _ => damage_stop(random, call),
+    }
+}
+
+/// A total near the right one, at a limit, or any.
+fn wrong_total(random: &mut Random, call: &mut Call, total: usize) {
+    let near = [total + 1, total.saturating_sub(1)];
+    let far = [0, 1, 2_048, 2_049, usize::MAX, random.between(1, 2_048)];
+    call.slices = if random.one_in(2) {
+        near[random.between(0, 1)]
+    } else {
+        far[random.between(0, 5)]
+    };
+}
+
+/// Lists over the states of a pool: with refused seeds, as they are, with random ones, damaged, with a wrong total.
+fn lists(random: &mut Random, pool: &Pool, seen: &mut Seen) -> Outcome {
+    let mut count = compare_refused(random, pool, seen)?;
+    for kind in 0..6 {
+        let (mut call, total) = pool.list(random, 7);
+        match kind {
+            0 => {}
+            1 => drop(put_refused(random, pool, &mut call)),
+            2 => call.seeds = (0..5).map(|_| random.bits(call.cells)).collect(),
+            3 => damage_stop(random, &mut call),
+            4 => damage(random, &mut call),
+            _ => {
+                put_refused(random, pool, &mut call);
+                damage(random, &mut call);
+                damage(random, &mut call);
+            }
+        }
+        count += compare_rooms(random, &call, total, seen)?;
+        wrong_total(random, &mut call, total);
+        for room in [total, random.between(0, total)] {
+            count += compare(random, &call, room, seen)?;
+        }
+    }
+    Ok(count)
+}
+
+/// The list of the second program's encoder for a random set, if the set has one.
+fn encoded(random: &mut Random, sizes: (usize, usize, usize), seen: &mut Seen) -> Outcome {
+    let mut call = lawful(random, sizes.0, sizes.1, sizes.2);
+    let mut seeds = vec![0; call.slices];
+    let Ok(number) = call.encode_set(&mut seeds) else {
+        return Ok(0);
+    };
+    call.seeds = seeds[..number].to_vec();
+    let total = call.slices;
+    let mut count = compare_rooms(random, &call, total, seen)?;
+    call.seeds[random.between(0, number - 1)] ^= 1 << random.between(0, call.cells - 1);
+    count += compare(random, &call, total, seen)?;
+    Ok(count)
+}
+
+/// A register whose chains each read a cell of their own, and its states from the stop back to 257 steps before it.
+/// By the second program the stop is first shown in slice 256 of the last but one, and in none of slices 0 to 256 of the last.
+fn walk(random: &mut Random, cells: usize) -> (Call, Vec<u64>) {
+    let mut call = lawful(random, 1, 1, 1);
+    call.cells = cells;
+    call.masks = (0..cells).map(|cell| 1 << cell).collect();
+    loop {
+        call.taps = random.bits(cells) | 1 << (cells - 1);
+        random.shuffle(&mut call.masks);
+        let mut state = random.bits(cells);
+        let mut states = vec![state];
+        for _ in 0..257 {
+            state = second::step(cells as u64, call.taps, state);
+            states.push(state);
+        }
+        states.reverse();
+        let all = u64::MAX >> (64 - cells);
+        call.stop = (all, second::slice(&call.masks, state));
+        if alone(&call, states[256]) == Ok(256) && alone(&call, states[257]) == Err(12) {
+            return (call, states);
+        }
+    }
+}
+
+fn refused(number: u64, value: u64) -> Result<usize, Refused> {
+    Err(Refused { number, value })
+}
+
+/// Lists at the limits: how many steps before the stop each seed stands, the total, and the answer where there is space.
+fn limits() -> Vec<(Vec<usize>, usize, Result<usize, Refused>)> {
+    vec![
+        (vec![1], 1, Ok(1)),
+        (vec![256], 256, Ok(256)),
+        (vec![257], 257, refused(12, 0)),
+        (vec![257], 256, refused(12, 0)),
+        (vec![0], 1, refused(11, 0)),
+        (vec![1, 256, 3], 260, Ok(260)),
+        (vec![1, 257, 0], 2, refused(12, 1)),
+        (vec![1, 0, 257], 2, refused(11, 1)),
+        (vec![256; 8], 2_048, Ok(2_048)),
+        (vec![256; 9], 2_048, refused(14, 2_304)),
+        (vec![1; 2_048], 2_048, Ok(2_048)),
+        (vec![1; 2_047], 2_047, Ok(2_047)),
+        (vec![1; 2_047], 2_048, refused(14, 2_047)),
+        (vec![1; 2_048], 2_047, refused(14, 2_048)),
+        (vec![1; 2_048], 2_049, refused(3, 0)),
+        (vec![1; 2_049], 2_049, refused(3, 0)),
+        (vec![1; 2_049], 2_048, refused(3, 0)),
+        (
+            [vec![1; 2_047], vec![257]].concat(),
+            2_048,
+            refused(12, 2_047),
+        ),
+        (
+            [vec![1; 2_047], vec![0]].concat(),
+            2_048,
+            refused(11, 2_047),
+        ),
+        ([vec![0], vec![1; 2_047]].concat(), 2_048, refused(11, 0)),
+        (vec![], 1, refused(14, 0)),
+        (vec![], 2_048, refused(14, 0)),
+        (vec![], 0, refused(3, 0)),
+        (vec![1], 0, refused(3, 0)),
+        (vec![], 2_049, refused(3, 0)),
+    ]
+}
+
+/// The lists at the limits for one register; the answer with space must be the one named.
+fn at_limits(random: &mut Random, cells: usize, seen: &mut Seen) -> Outcome {
+    let (mut call, states) = walk(random, cells);
+    let mut count = 0;
+    for (distances, total, told) in limits() {
+        call.seeds = distances.iter().map(|&steps| states[steps]).collect();
+        call.slices = total;
+        let answer = call.expand(&call.seeds, &mut [0; 2_048]);
+        same("the second program at a limit", answer, told)?;
+        count += compare_rooms(random, &call, total, seen)?;
+    }
+    Ok(count)
+}
+
+/// 2,048 seeds of 256 slices each: the total found is counted to its end.
+fn most_slices(random: &mut Random, seen: &mut Seen) -> Outcome {
+    let (mut call, states) = walk(random, 9);
+    call.seeds = vec![states[256]; 2_048];
+    call.slices = 2_048;
+    let answer = call.expand(&call.seeds, &mut []);
+    same("the second program's total", answer, refused(14, 524_288))?;
+    compare(random, &call, 2_048, seen)
+}
+
+/// What the second program must have answered: each refusal of a seed also at the first place, in between and last, and each two in one list.
+const REQUIRED: [&str; 25] = [
+    "accepted",
+    "refusal 1",
+    "refusal 2",
+    "refusal 3",
+    "refusal 5",
+    "refusal 9",
+    "refusal 10",
+    "refusal 11",
+    "refusal 12",
+    "refusal 14",
+    "refusal 10, first, not last",
+    "refusal 10, later, not last",
+    "refusal 10, later, last",
+    "refusal 11, first, not last",
+    "refusal 11, later, not last",
+    "refusal 11, later, last",
+    "refusal 12, first, not last",
+    "refusal 12, later, not last",
+    "refusal 12, later, last",
+    "10 before 11",
+    "10 before 12",
+    "11 before 10",
+    "11 before 12",
+    "12 before 10",
+    "12 before 11",
+];
+
+/// Lists for small and wide registers, lists of the encoder, and lists at the limits.
+pub fn answers() -> Outcome {
+    let mut random = Random(12);
+    let mut seen = Seen::default();
+    let mut count = 0;
+    for round in 0..1_000 {
+        let (cells, chains) = if round % 4 == 0 { (64, 64) } else { (6, 4) };
+        let pool = pool(&mut random, cells, chains);
+        count += lists(&mut random, &pool, &mut seen)?;
+    }
+    for round in 0..2_500 {
+        let sizes = [(12, 4, 20), (64, 64, 40)][round % 2];
+        count += encoded(&mut random, sizes, &mut seen)?;
+    }
+    for cells in [9, 10, 16, 31, 32, 33, 63, 64] {
+        count += at_limits(&mut random, cells, &mut seen)?;
+    }
+    count += most_slices(&mut random, &mut seen)?;
+    seen.require(&REQUIRED)?;
+    Ok(count)
+}

@@ -1,0 +1,322 @@
+// The library's stop slice steps against the second program's: the answers for whole and damaged sets, and the counts of the slices still in.
+
+use crate::library::{self, StopAnswer};
+use crate::random::Random;
+use crate::report::{same, Outcome};
+use crate::seen::Seen;
+
+/// What a call for a stop slice hands in.
+#[derive(Clone, Debug)]
+struct Set {
+    chains: usize,
+    specified: Vec<u64>,
+    bits: Vec<u64>,
+}
+
+impl Set {
+    /// A set of no slices yet.
+    fn new(chains: usize) -> Set {
+        Set {
+            chains,
+            specified: Vec::new(),
+            bits: Vec::new(),
+        }
+    }
+
+    fn push(&mut self, specified: u64, bits: u64) {
+        self.specified.push(specified);
+        self.bits.push(bits & specified);
+    }
+
+    /// Makes the set so many slices long; those added are all x.
+    fn resize(&mut self, count: usize) {
+        self.specified.resize(count, 0);
+        self.bits.resize(count, 0);
+    }
+}
+
+/// Each position is specified `percent` times in a hundred; at 0 all slices are all x.
+fn loose(random: &mut Random, chains: usize, count: usize, percent: u64) -> Set {
+    let mut set = Set::new(chains);
+    for _ in 0..count {
+        let specified = random.sparse(chains, percent);
+        set.push(specified, random.word());
+    }
+    set
+}
+
+/// The word with its lowest `chains` bits turned round by fewer than `chains` places.
+fn turned(word: u64, by: usize, chains: usize) -> u64 {
+    let twice = u128::from(word) << by;
+    let mask = u64::MAX >> (64 - chains);
+    (twice | twice >> chains) as u64 & mask
+}
+
+/// A slice turned round by each number of places, and then its complement or itself again: many counts tie.
+fn tied(random: &mut Random, chains: usize, count: usize) -> Set {
+    let mut set = Set::new(chains);
+    let specified = random.bits(chains);
+    let bits = random.word() & specified;
+    let flip = if random.one_in(2) { specified } else { 0 };
+    for place in 0..count {
+        let (round, by) = (place / chains, place % chains);
+        let bits = if round % 2 == 1 { bits ^ flip } else { bits };
+        set.push(turned(specified, by, chains), turned(bits, by, chains));
+    }
+    set
+}
+
+/// All fully specified slices in any order, without `missing` of them: with none missing the steps end with one in.
+fn crowded(random: &mut Random, chains: usize, missing: usize) -> Set {
+    let all = u64::MAX >> (64 - chains);
+    let mut words: Vec<u64> = (0..=all).collect();
+    random.shuffle(&mut words);
+    let mut set = Set::new(chains);
+    for &bits in &words[missing..] {
+        set.push(all, bits);
+    }
+    set
+}
+
+fn small(random: &mut Random) -> Set {
+    let (chains, count) = (random.between(1, 8), random.between(1, 12));
+    let missing = random.between(0, 1);
+    match random.below(8) {
+        0 => loose(random, chains, count, 0),
+        1 => tied(random, chains, count),
+        2 => crowded(random, chains.min(3), missing),
+        _ => {
+            let percent = [10, 30, 60, 90, 100][random.between(0, 4)];
+            loose(random, chains, count, percent)
+        }
+    }
+}
+
+/// Few bits, but most slices have one at the last position or at another: the steps mostly begin there.
+fn leaning(random: &mut Random, chains: usize, count: usize) -> Set {
+    let mut set = loose(random, chains, count, 10);
+    let at = [chains - 1, random.between(0, chains - 1)][random.between(0, 1)];
+    for (specified, bits) in set.specified.iter_mut().zip(&mut set.bits) {
+        if !random.one_in(4) {
+            *specified |= 1 << at;
+            *bits |= random.below(2) << at;
+        }
+    }
+    set
+}
+
+fn wide(random: &mut Random) -> Set {
+    let chains = [random.between(1, 64), 64][random.between(0, 1)];
+    let count = random.between(1, 300);
+    match random.below(4) {
+        0 => tied(random, chains, count),
+        1 => leaning(random, chains, count),
+        _ => {
+            let percent = [1, 5, 20, 50, 100][random.between(0, 4)];
+            loose(random, chains, count, percent)
+        }
+    }
+}
+
+/// Damages one slice: bits beyond the chains, or one set where it is unspecified.
+fn damage_slice(random: &mut Random, set: &mut Set) {
+    let count = set.specified.len().min(set.bits.len());
+    if count == 0 {
+        return;
+    }
+    let at = [0, random.between(0, count - 1), count - 1][random.between(0, 2)];
+    let far = random.beyond(set.chains);
+    let inside = 1 << random.between(0, set.chains.clamp(1, 64) - 1);
+    match random.below(4) {
+        0 => set.specified[at] |= far,
+        1 => set.bits[at] |= far,
+        2 => {
+            set.specified[at] |= far;
+            set.bits[at] |= far;
+        }
+        _ => {
+            set.specified[at] &= !inside;
+            set.bits[at] |= inside;
+        }
+    }
+}
+
+/// Damages one part of a set: its number of chains, its length, one of its lists or one of its slices.
+fn damage(random: &mut Random, set: &mut Set) {
+    match random.below(12) {
+        0 => set.chains = 0,
+        1 => set.chains = [65, 66, set.chains | 1 << 32, usize::MAX][random.between(0, 3)],
+        2 => set.resize(0),
+        3 => set.resize([2_048, 2_049, 2_050][random.between(0, 2)]),
+        4 => drop(set.specified.pop()),
+        5 => drop(set.bits.pop()),
+        6 => set.specified.push(0),
+        7 => set.bits.push(0),
+        8 => set.specified.resize([0, 2_049][random.between(0, 1)], 0),
+        9 => set.bits.resize([0, 2_049][random.between(0, 1)], 0),
+        _ => damage_slice(random, set),
+    }
+}
+
+fn compare(set: &Set, seen: &mut Seen) -> Outcome {
+    let (chains, specified, bits) = (set.chains, &set.specified, &set.bits);
+    let told = second::stop_slice(chains as u64, specified, bits);
+    seen.answer(&told);
+    if let Ok(trace) = second::stop_trace(chains as u64, specified, bits) {
+        note_steps(chains, &trace, seen);
+    }
+    let ours = library::stop(chains, specified, bits);
+    same("the stop slice", ours, StopAnswer::from(told))
+        .map_err(|why| format!("{why} of {set:x?}"))?;
+    Ok(1)
+}
+
+/// Notes what the second program met in its steps.
+fn note_steps(chains: usize, trace: &second::StopTrace, seen: &mut Seen) {
+    let mut unset = vec![true; chains];
+    for (place, step) in trace.iterations.iter().enumerate() {
+        let at = step.position as usize - 1;
+        let counts = |at: usize| [step.zeros[at], step.ones[at]];
+        let counted = counts(at)[1 - step.bit as usize];
+        if place > 0 && counted == 0 {
+            seen.note("a count of 0 that decides after the first step");
+        }
+        if counted > 0 && step.zeros[at] == step.ones[at] {
+            seen.note("as many 0s as 1s where the greatest count is");
+        }
+        let mut later = (at + 1..chains).filter(|&other| unset[other]);
+        if counted > 0 && later.any(|other| counts(other).contains(&counted)) {
+            seen.note("the greatest count again to the right");
+        }
+        unset[at] = false;
+    }
+    if trace.left.is_empty() && !unset.contains(&true) {
+        seen.note("a stop slice with every position set");
+    }
+    if trace.stop_spec >> 63 == 1 {
+        seen.note("a stop slice with position 64 set");
+    }
+}
+
+/// Sets of 2,048 and 2,049 slices. Each step removes half of the slices in or more, so of 2,048 some can stay in only up to 11 chains.
+fn long(random: &mut Random) -> Vec<Set> {
+    let mut sets = vec![
+        crowded(random, 11, 0),
+        crowded(random, 11, 1),
+        crowded(random, 12, 2_048),
+        tied(random, 64, 2_048),
+        tied(random, 11, 2_048),
+    ];
+    for percent in [0, 1, 10, 50, 100] {
+        sets.push(loose(random, 64, 2_048, percent));
+        sets.push(loose(random, 11, 2_048, percent));
+        sets.push(loose(random, 11, 2_049, percent));
+    }
+    let mut last = sets[0].clone();
+    last.bits[2_047] |= 1 << 11;
+    sets.push(last);
+    sets
+}
+
+/// The stop slice of small, wide and long sets, whole and with up to three damages.
+pub fn answers() -> Outcome {
+    let mut random = Random(10);
+    let mut seen = Seen::default();
+    let mut count = 0;
+    for round in 0..20_000 {
+        let mut set = small(&mut random);
+        // half of them stay whole
+        for _ in 2..round % 6 {
+            damage(&mut random, &mut set);
+        }
+        count += compare(&set, &mut seen)?;
+    }
+    for round in 0..2_000 {
+        let mut set = wide(&mut random);
+        for _ in 0..round % 3 {
+            damage(&mut random, &mut set);
+        }
+        count += compare(&set, &mut seen)?;
+    }
+    for set in long(&mut random) {
+        count += compare(&set, &mut seen)?;
+    }
+    seen.require(&[
+        "accepted",
+        "refusal 2",
+        "refusal 3",
+        "refusal 4",
+        "refusal 6",
+        "a count of 0 that decides after the first step",
+        "as many 0s as 1s where the greatest count is",
+        "the greatest count again to the right",
+        "a stop slice with every position set",
+        "a stop slice with position 64 set",
+    ])?;
+    Ok(count)
+}
+
+/// The counts of each iteration of the second program's steps: at each unset position, and the slices in.
+fn compare_steps(set: &Set, handed: &Set) -> Outcome {
+    let trace = second::stop_trace(set.chains as u64, &set.specified, &set.bits)
+        .map_err(|refused| format!("a whole set is refused by {}", refused.number))?;
+    let (mut stop, mut still_in, mut count) = ((0, 0), set.specified.len(), 0);
+    let ours = |stop| library::count_in(stop, &handed.specified, &handed.bits);
+    for step in &trace.iterations {
+        same("the slices in", ours(stop), still_in)?;
+        for at in (0..set.chains).filter(|at| stop.0 >> at & 1 == 0) {
+            let weight = 1 << at;
+            let zeros = ours((stop.0 | weight, stop.1));
+            let ones = ours((stop.0 | weight, stop.1 | weight));
+            same("0s", zeros as u64, step.zeros[at])?;
+            same("1s", ones as u64, step.ones[at])?;
+            count += 2;
+        }
+        stop.0 |= 1 << (step.position - 1);
+        stop.1 |= step.bit << (step.position - 1);
+        still_in -= step.removed.len();
+        count += 1;
+    }
+    same("the slices in at last", ours(stop), trace.left.len())?;
+    Ok(count + 1)
+}
+
+/// Any well-formed stop slice against any lists: a slice counts if its specified positions show all of the stop's, and its bits show the stop.
+fn compare_any(random: &mut Random, set: &Set) -> Outcome {
+    let highest = set.chains.clamp(1, 64) - 1;
+    let few = random.between(0, 3);
+    let positions = (0..few).fold(0, |all, _| all | 1 << random.between(0, highest));
+    let stop = (positions, random.word() & positions);
+    let counts = |(&specified, &bits): &(&u64, &u64)| {
+        second::shows(stop.0, stop.0, specified) && second::shows(stop.0, stop.1, bits)
+    };
+    let told = set.specified.iter().zip(&set.bits).filter(counts).count();
+    let ours = library::count_in(stop, &set.specified, &set.bits);
+    same(&format!("the count with the stop {stop:x?}"), ours, told)?;
+    Ok(1)
+}
+
+/// How many slices are in, for lists equally and unequally long.
+pub fn counts() -> Outcome {
+    let mut random = Random(11);
+    let mut count = 0;
+    for round in 0..3_000 {
+        let set = if round % 20 == 0 {
+            wide(&mut random)
+        } else {
+            small(&mut random)
+        };
+        let mut handed = set.clone();
+        let more = (0..random.between(1, 3)).map(|_| random.word());
+        match round % 3 {
+            0 => handed.specified.extend(more),
+            1 => handed.bits.extend(more),
+            _ => {}
+        }
+        count += compare_steps(&set, &handed).map_err(|why| format!("{why} of {handed:x?}"))?;
+        damage(&mut random, &mut handed);
+        count +=
+            compare_any(&mut random, &handed).map_err(|why| format!("{why} of {handed:x?}"))?;
+    }
+    Ok(count)
+}
