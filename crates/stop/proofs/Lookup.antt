@@ -1,6 +1,7 @@
 -- A slice that is looked up is in exactly while the published steps leave it in (document 02, R-7).
 --     in-each, each-in      a slice is in: it has the stop's bit at each set position
---     one-weight, unset-free, free-bit     the weight of a position; an unset position, and its bit
+--     one-weight                        the weight of a position
+--     unset-free, free-unset, free-bit  an unset position, and its bit
 --     put-specified, put-bits, put-here, put-bit, put-formed     a position more is set
 --     in-put                after a position is set, the slices in are those that were in and have its bit
 --     in-start              before the first step all are in
@@ -16,7 +17,7 @@ use native.Mathlib.Omega.{arith}
 use lib.Bits.{bitAnd, and-zero-r}
 use lib.Dec.{eqb}
 use lib.ListN.{length}
-use borrow.Author.Tests.{eqb-true, eqb-false, eq-eqb}
+use borrow.Author.Tests.{eqb-true, eqb-false, eq-eqb, ne-eqb}
 use Rattle.bounded.proofs.Tests.{clash, lt-or-le, both, and-yes, alike}
 use Rattle.gf2.specs.Words.{digit}
 use Rattle.gf2.proofs.Digits.{digit-and, digit-lt, words-equal, put-same, put-other}
@@ -64,6 +65,9 @@ pub unset-free : (stop : TestSlice) (p : ℕ) → isSet p stop ≡ false → dig
 unset-free stop p unset =
     let l = digit-lt (stop .specified) p in
     ⊎-elim (λ z. omega arith) (λ o. absurd (eqb-false (digit (stop .specified) p) 1 unset (omega arith))) (lt-or-le (digit (stop .specified) p) 1)
+
+pub free-unset : (stop : TestSlice) (p : ℕ) → digit (stop .specified) p ≡ 0 → isSet p stop ≡ false
+free-unset stop p z = ne-eqb (digit (stop .specified) p) 1 (λ e. omega arith)
 
 module _ (stop : TestSlice) (p b : ℕ) (unset : isSet p stop ≡ false) (bit : b < 2) (f : BitsSpecified stop) where
   free : digit (stop .specified) p ≡ 0

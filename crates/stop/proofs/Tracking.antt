@@ -9,15 +9,17 @@ use mathlib.Core.Option.{Option, none, some}
 use mathlib.Core.List.{List}
 use Prim.Native.Nat.{ℕ, _+_, _/_, _%_, _≤_, _<_}
 use native.Mathlib.Numerals.{add-one}
+use native.Mathlib.Omega.{arith}
 use lib.Dec.{ltb}
 use borrow.Author.Tests.{lt-ltb, le-ltb, eq-eqb}
 use Rattle.gf2.specs.Words.{digit}
+use Rattle.gf2.proofs.Digits.{digit-lt}
 use Rattle.slices.specs.declared.TestSlice.{TestSlice}
 use Rattle.slices.specs.Slices.{paired}
 use Rattle.stop.specs.Steps.{isSet, put, better, choice}
 use Rattle.stop.specs.Lookup.{BitsSpecified, inCount}
 use Rattle.stop.specs.Code.{tracked, track, countIn, weighed}
-use Rattle.stop.proofs.Lookup.{count-in}
+use Rattle.stop.proofs.Lookup.{free-unset, count-in}
 use Rattle.stop.specs.declared.Best.{Best}
 use Rattle.stop.specs.declared.Best.the-variants.{Choice}
 
@@ -43,13 +45,15 @@ module _ (stop : TestSlice) (specified bits : List ℕ) where
   counts = countIn stop specified bits
 
   module _ (q : ℕ) (best : Best) where
-    pub weighed-set : digit (stop .specified) (q / 2) ≡ 1 → weighed stop specified bits q best ≡ best
+    pub weighed-set : (digit (stop .specified) (q / 2) ≡ 0 → ⊥) → weighed stop specified bits q best ≡ best
     unfolding weighed
-    weighed-set h = rw (eq-eqb (digit (stop .specified) (q / 2)) 1 h, weighed)
+    weighed-set h = rw (eq-eqb (digit (stop .specified) (q / 2)) 1 (omega (arith, digit-lt (stop .specified) (q / 2))), weighed)
 
-    pub weighed-unset : BitsSpecified stop → isSet (q / 2) stop ≡ false → weighed stop specified bits q best ≡ track q (inCount (put (q / 2) (q % 2) stop) specified bits) best
+    pub weighed-unset : BitsSpecified stop → digit (stop .specified) (q / 2) ≡ 0 → weighed stop specified bits q best ≡ track q (inCount (put (q / 2) (q % 2) stop) specified bits) best
     unfolding weighed inCount
-    weighed-unset f u = rw (u, weighed) (ap (λ (n : ℕ). track q n best) (count-in stop f q u (paired specified bits)))
+    weighed-unset f z =
+        let u = free-unset stop (q / 2) z in
+        rw (u, weighed) (ap (λ (n : ℕ). track q n best) (count-in stop f q u (paired specified bits)))
 
   pub weigh-next : (q : ℕ) → weighed stop specified bits q (tracked counts (choice stop counts q)) ≡ tracked counts (choice stop counts (q + 1))
   unfolding choice weighed

@@ -95,11 +95,11 @@ fn weigh(best: Best, stop: TestSlice, choice: usize, specified: &[u64], bits: &[
     ensures { λ r. ⌜ r ≡ weighed stop (now (specified .entry)) (now (bits .entry)) choice best ⌝ }
 {
     let position = choice / 2;
-    if gf2::digit(stop.specified, position) == 1 {
-        return best;
+    if gf2::digit(stop.specified, position) == 0 {
+        let counted = put(stop, position, (choice % 2) as u64);
+        return better(best, choice, count_in(counted, specified, bits));
     }
-    let counted = put(stop, position, (choice % 2) as u64);
-    better(best, choice, count_in(counted, specified, bits))
+    best
 }
 
 // The choice of a step: the greatest count, on a tie the leftmost position, and there the 0s before the 1s.
