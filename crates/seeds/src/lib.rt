@@ -208,7 +208,7 @@ fn stop_answer_of(formed: Formed) -> StopAnswer
     }
 }
 
-// How many test slices have the stop's bit at each position of the stop that is set; of two lists unequally long, the shorter counts.
+// How many test slices have the stop's bit at each position of the stop that is set; of two lists unequally long, the shorter counts. Under a stop slice with a bit that is not specified, none has.
 #[no_mangle]
 pub extern "C" fn seeds_count_in(
     stop_specified: u64,

@@ -1,6 +1,6 @@
 -- Laws of the look-up, as the code goes through the test slices.
 --     in-unspecified, in-shows       whether one slice is in, one test after the other
---     in-start, in-hit, in-miss, in-end     a loop that counts the slices that are in: those passed, and those from i on
+--     rest, in-hit, in-miss, in-end  how many are in from the place i on, as a loop counts them
 --     put-fits, put-bit-fits         a position more fits a word
 -- Assumes nothing.
 use mathlib.Core.Path.{_≡_, refl}

@@ -1,7 +1,6 @@
 -- What the stop slice of a set is good for, and what refusal 6 says.
 --     stop-means     of the steps' stop slice
 --     six-means      where the steps give none
---     formed-means, refused-means     the same of the whole call
 -- Assumes nothing.
 use mathlib.Core.Path.{_≡_, refl, sym, _∙_}
 use mathlib.Core.Logic.{_⊎_, inl, inr, ⊎-elim}

@@ -1,7 +1,7 @@
 -- One step, as the code takes it: no slice is in, no position is unset, or the choice is set.
 --     next-empty, next-none, next-some     the stop slice after the step
 --     chosen-unset                         the position of the choice is unset
---     next-stage                           the steps' stop slice, one step more
+--     stage-specified, next-stage          the stop slice of a stage; one step more
 --     form-stop, form-six                  the answer when the steps have ended
 -- Assumes nothing.
 use mathlib.Core.Path.{_≡_, refl, sym, ap, ap₂, _∙_}
@@ -22,7 +22,7 @@ use Rattle.stop.specs.declared.Best.the-variants.{Nothing, Choice}
 use Rattle.stop.specs.declared.Formed.{Formed}
 use Rattle.stop.specs.declared.Formed.the-variants.{Stop, Refused}
 use Rattle.stop.proofs.Choice.{Chosen, choice-is}
-use Rattle.stop.proofs.Stages.{stage-sound}
+use Rattle.stop.proofs.Stages.{stage-sound, stage-left}
 use Rattle.causes.specs.declared.Cause.the-variants as cause
 
 none-in : (l : List TestSlice) → length l ≡ 0 → isEmpty l ≡ true
@@ -91,7 +91,7 @@ module _ (chains : ℕ) (specified bits : List ℕ) where
 
   -- the stage whose slices are looked up
   looked-up : (k : ℕ) → record { stop = stage chains set k .stop; left = inOf (stage chains set k .stop) specified bits } ≡ stage chains set k
-  looked-up k = ap (λ (l : List TestSlice). record { stop = stage chains set k .stop; left = l }) (stage-sound chains set k .in-left)
+  looked-up k = ap (λ (l : List TestSlice). record { stop = stage chains set k .stop; left = l }) (stage-left chains set k)
 
   pub stage-specified : (k : ℕ) → BitsSpecified (stage chains set k .stop)
   stage-specified k = stage-sound chains set k .specified
@@ -106,7 +106,7 @@ module _ (chains : ℕ) (specified bits : List ℕ) where
 
   answer : stopOr6 (stopFor chains set) ≡ by (inOf (stage chains set chains .stop) specified bits)
   unfolding stopFor ended stopOr6 by
-  answer = ap by (sym (stage-sound chains set chains .in-left))
+  answer = ap by (sym (stage-left chains set chains))
 
   module _ (stop : TestSlice) (k : ℕ) (here : stop ≡ stage chains set k .stop) (last : k ≡ chains) where
     ends : stage chains set chains .stop ≡ stop

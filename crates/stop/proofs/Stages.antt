@@ -1,6 +1,7 @@
 -- The stages of the stop slice steps.
 --     Sound chains set g     the stop slice so far is well-formed, and the slices still in are those that are looked up to be in
 --     stage-sound            so it is after each step
+--     stage-left             after each step, the slices that are looked up to be in are just those that the published steps leave in
 --     AllSet, Progress       no position is unset; after k steps no slice is in, or no position is unset, or k positions are set
 --     stage-progress         so it is
 -- Assumes nothing.
@@ -78,6 +79,9 @@ module _ (chains : ℕ) (set : List TestSlice) where
   unfolding stage
   stage-sound zero = start-sound
   stage-sound (suc k) = advance-sound (stage chains set k) (stage-sound k)
+
+  pub stage-left : (k : ℕ) → filter (isIn (stage chains set k .stop)) set ≡ stage chains set k .left
+  stage-left k = stage-sound k .in-left
 
   pub stage-progress : (k : ℕ) → Progress chains k (stage chains set k)
   unfolding stage

@@ -1,4 +1,4 @@
--- Whether a slice is still in, looked up: it has the stop's bit at each position set so far (document 02, R-7). That these are the slices that the steps leave in is proved in proofs/Lookup.
+-- Whether a slice is still in, looked up: it has the stop's bit at each position set so far (document 02, R-7). That after each step these are the slices that the steps leave in is `stage-left` of proofs/Stages.
 --     BitsSpecified stop                 no bit of the stop slice is set that is not specified
 --     isIn stop t                        the test slice t has the stop's bit at each position of the stop that is set
 --     inCount stop specified bits        how many test slices are in; of two lists unequally long, the shorter counts

@@ -39,7 +39,7 @@ fn shorter(a: usize, b: usize) -> usize
     if a < b { a } else { b }
 }
 
-// How many test slices are still in; of two lists unequally long, the shorter counts.
+// How many test slices are still in; of two lists unequally long, the shorter counts. Under a stop slice with a bit that is not specified, none is.
 pub fn count_in(stop: TestSlice, specified: &[u64], bits: &[u64]) -> usize
     ensures { λ r. ⌜ r ≡ inCount stop (now (specified .entry)) (now (bits .entry)) ⌝ }
 {
