@@ -1,5 +1,6 @@
-// Bounded search over a test on numbers, as definitions and laws; the code is the test of a range.
+// Bounded search over a test on numbers, as definitions and laws; the code is the test of a range and the lesser of two numbers.
 ghost use mathlib.Core.Path.{_≡_};
+ghost use Prim.Native.Nat.{min};
 ghost use Rattle.bounded.specs.Bounded.{within as withinOf};
 
 // Whether a number is one of low to high.
@@ -10,4 +11,11 @@ pub fn within(low: usize, high: usize, n: usize) -> bool
         return false;
     }
     n <= high
+}
+
+// The lesser of two numbers.
+pub fn lesser(a: usize, b: usize) -> usize
+    ensures { λ r. ⌜ r ≡ min a b ⌝ }
+{
+    if a < b { a } else { b }
 }

@@ -1,8 +1,7 @@
 // The shift register and its chains (document 01, "Register and chains"): the step, the slice of a state, and the checks behind causes 1 and 2.
 use causes::Cause;
 ghost use mathlib.Core.Path.{_≡_};
-ghost use Prim.Native.Nat.{min};
-ghost use lib.ListN.{length, take};
+ghost use lib.ListN.{take};
 ghost use Rattle.bounded.specs.Bounded.{any};
 ghost use Rattle.register.specs.Register.{badRegister, madeOf, stepOf};
 ghost use Rattle.register.specs.Machine.{base as baseOf};
@@ -125,22 +124,11 @@ pub fn bad_chains(cells: usize, masks: &[u64]) -> bool
     some_bad_mask(cells, masks)
 }
 
-// How many of the masks a slice has room for.
-fn chains_of(masks: &[u64]) -> usize
-    ensures { λ r. ⌜ r ≡ min 64 (length (now (masks .entry))) ⌝ }
-{
-    if MOST_CHAINS < masks.len() {
-        MOST_CHAINS
-    } else {
-        masks.len()
-    }
-}
-
 // The slice of a state under the first 64 masks, chain 1 lowest.
 pub fn slice(masks: &[u64], state: u64) -> u64
     ensures { λ r. ⌜ r ≡ sliceOf (take 64 (now (masks .entry))) state ⌝ }
 {
-    let mut left = chains_of(masks);
+    let mut left = bounded::lesser(MOST_CHAINS, masks.len());
     let mut bits: u64 = 0;
     while 0 < left {
         left -= 1;

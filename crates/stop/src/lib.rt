@@ -3,7 +3,7 @@ use causes::Cause;
 use checks::Verdict;
 use slices::TestSlice;
 ghost use mathlib.Core.Path.{_≡_};
-ghost use Prim.Native.Nat.{_≤_, _<_, min};
+ghost use Prim.Native.Nat.{_≤_, _<_};
 ghost use Rattle.slices.specs.Slices.{paired};
 ghost use Rattle.stop.specs.Steps.{put as putOf, stopFor};
 ghost use Rattle.stop.specs.Lookup.{BitsSpecified, isIn, inCount};
@@ -32,18 +32,11 @@ fn is_in(stop: TestSlice, test: TestSlice) -> bool
     slices::shows(stop, test.bits)
 }
 
-// The lesser of two lengths.
-fn shorter(a: usize, b: usize) -> usize
-    ensures { λ r. ⌜ r ≡ min a b ⌝ }
-{
-    if a < b { a } else { b }
-}
-
 // How many test slices are still in; of two lists unequally long, the shorter counts. Under a stop slice with a bit that is not specified, none is.
 pub fn count_in(stop: TestSlice, specified: &[u64], bits: &[u64]) -> usize
     ensures { λ r. ⌜ r ≡ inCount stop (now (specified .entry)) (now (bits .entry)) ⌝ }
 {
-    let slices = shorter(specified.len(), bits.len());
+    let slices = bounded::lesser(specified.len(), bits.len());
     let mut count = 0;
     let mut i = 0;
     while i < slices {

@@ -16,13 +16,13 @@ Inv-loop masks state left₀ bits₀ left bits = (left ≤ min 64 (length masks)
 abbrev μ-loop : tie.MeasureT-loop
 μ-loop masks state left₀ bits₀ left bits = left
 
-chains-of-requires : tie.Need-chains-of-requires Inv-loop μ-loop
-chains-of-requires c κs = search needs
+lesser-requires : tie.Need-lesser-requires Inv-loop μ-loop
+lesser-requires c κs = search needs
 
 loop-holds : tie.Need-loop-holds Inv-loop μ-loop
 loop-holds c =
     let a = c .before .before .args in
-    (omega (arith, c .chains-of .ensures), slice-start (a .masks .now) (a .state) (c .chains-of .result) (c .chains-of .ensures))
+    (omega (arith, c .lesser .ensures), slice-start (a .masks .now) (a .state) (c .lesser .result) (c .lesser .ensures))
 
 sub-left : tie.Need-sub-left Inv-loop μ-loop
 sub-left c = search needs
@@ -68,7 +68,7 @@ slice-spec =
     (tie.spec
     Inv-loop
     μ-loop
-    chains-of-requires
+    lesser-requires
     loop-holds
     sub-left
     mul-bits

@@ -16,11 +16,11 @@ Inv-loop stop specified bits slices count₀ i₀ count i = (slices ≡ min (len
 abbrev μ-loop : tie.MeasureT-loop
 μ-loop stop specified bits slices count₀ i₀ count i = slices - i
 
-shorter-requires : tie.Need-shorter-requires Inv-loop μ-loop
-shorter-requires c κs = search needs
+lesser-requires : tie.Need-lesser-requires Inv-loop μ-loop
+lesser-requires c κs = search needs
 
 loop-holds : tie.Need-loop-holds Inv-loop μ-loop
-loop-holds c = (c .shorter .ensures, search needs, search needs, omega arith)
+loop-holds c = (c .lesser .ensures, search needs, search needs, omega arith)
 
 mul-t11 : tie.Need-mul-t11 Inv-loop μ-loop
 mul-t11 c = search needs
@@ -69,7 +69,7 @@ count-in-spec =
     (tie.spec
     Inv-loop
     μ-loop
-    shorter-requires
+    lesser-requires
     loop-holds
     mul-t11
     shared-slice-read-t13
