@@ -22,7 +22,8 @@ use Rattle.covering.specs.Rules.{Rules, rules}
 use Rattle.expander.specs.Run.{slicesOf, firstStop}
 use Rattle.expander.specs.Expanding.{Walk, ran, failed, after, walk}
 use Rattle.expander.specs.Code.{untilStop}
-use Rattle.expander.proofs.Tallying.{run-length, walk-beyond, walk-at-stop, walk-endless, walk-next}
+use Rattle.expander.proofs.OneSeed.{run-length}
+use Rattle.expander.proofs.Tallying.{walk-beyond, walk-at-stop, walk-endless, walk-next}
 use Rattle.expander.proofs.Writing.{until-run, sets-append}
 
 pub until-length : (M : Machine) (stop : TestSlice) (d s : ℕ) → length (untilStop M stop d s) ≤ d

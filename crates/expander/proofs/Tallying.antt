@@ -1,5 +1,4 @@
 -- The walk over the seeds, seed by seed: what is delivered so far, and what the seeds from a place on deliver.
---     run-length                   a run of m slices has m slices
 --     walk-beyond, walk-at-stop, walk-endless     the seed at a place is refused by 10, 11, 12
 --     walk-next                    it delivers its slices, and the seeds behind it theirs
 --     Tallied                      the total of the list is what is delivered so far and what the rest delivers
@@ -9,7 +8,7 @@ use mathlib.Core.Path.{_≡_, refl, ap, _∙_}
 use mathlib.Core.Bool.{true, false}
 use mathlib.Core.Option.{Option, none, some}
 use mathlib.Core.List.{List, _∷_}
-use Prim.Native.Nat.{ℕ, zero, suc, _+_, _-_, _≤_, _<_}
+use Prim.Native.Nat.{ℕ, suc, _+_, _-_, _≤_, _<_}
 use native.Mathlib.Numerals.{add-one}
 use native.Mathlib.Omega.{arith}
 use lib.ListN.{length, getD, drop, drop-of-length-le, length-append}
@@ -27,12 +26,8 @@ use Rattle.covering.specs.Rules.{Rules, rules}
 use Rattle.expander.specs.Run.{slicesOf, firstStop, fails, ending, delivers}
 use Rattle.expander.specs.Expanding.{Walk, ran, failed, after, walk}
 use Rattle.expander.specs.Code.{tally}
+use Rattle.expander.proofs.OneSeed.{run-length, walk-fails, walk-gives}
 use Rattle.expander.proofs.Covered.{ending-closed}
-
-pub run-length : (M : Machine) (m s : ℕ) → length (slicesOf M m s) ≡ m
-unfolding slicesOf
-run-length M zero s = refl
-run-length M (suc m) s = ap suc (run-length M m (M .step s))
 
 tally-after : (total : ℕ) (vs : List ℕ) (w : Walk) → tally total (after vs w) ≡ tally (total + length vs) w
 unfolding tally after
@@ -60,8 +55,7 @@ module _ (g : Settings) (masks : List ℕ) (stop : TestSlice) (seeds : List ℕ)
     split = drop-cons seeds place 0 there
 
     refused : (c : Cause) → delivers M R stop place false (n - done) seed ≡ fails c → rest ≡ failed c
-    unfolding walk
-    refused c e = rw (split, walk, e)
+    refused c e = ap (walk M R n place done) split ∙ walk-fails M R n place done seed (drop (suc place) seeds) c e
 
     pub walk-beyond : beyond (g .cells) seed ≡ true → rest ≡ failed (SeedBeyond place)
     unfolding delivers
@@ -81,8 +75,9 @@ module _ (g : Settings) (masks : List ℕ) (stop : TestSlice) (seeds : List ℕ)
       walk-endless e = refused (SeedEndless place) (by-stop ∙ rw e)
 
       pub walk-next : (m : ℕ) → stops ≡ some m → 0 < m → rest ≡ after (slicesOf M m seed) (walk M R n (place + 1) (done + m) (drop (place + 1) seeds))
-      unfolding walk
-      walk-next m e h = rw (add-one, split, walk, by-stop ∙ ap (ending place false (n - done)) e ∙ ending-closed place (n - done) m h)
+      walk-next m e h =
+          rw add-one (ap (walk M R n place done) split
+          ∙ walk-gives M R n place done seed (drop (suc place) seeds) m (by-stop ∙ ap (ending place false (n - done)) e ∙ ending-closed place (n - done) m h))
 
   abbrev whole : Written
   whole = tally 0 (walk M R n 0 0 seeds)

@@ -21,6 +21,7 @@ use Rattle.covering.specs.Windows.{part, closes, coversPart, CoveredBy}
 use Rattle.covering.proofs.Places.{placed-parts, far-le}
 use Rattle.expander.specs.Run.{slicesOf, firstStop, gives, delivers}
 use Rattle.expander.specs.Expanding.{ran, after, isLast, walk, totalled, expanding}
+use Rattle.expander.proofs.OneSeed.{walk-gives}
 use Rattle.expander.proofs.Agreeing.{Agree, agree-none, agree-append, agree-length}
 use Rattle.expander.proofs.Covered.{covers-stop, covers-agree, ending-closed}
 
@@ -68,11 +69,11 @@ module _ (M : Machine) (R : Rules) (set : List TestSlice) (closed : R .openEnd �
 
   walk-more : (place a k s : ℕ) (ss ws : List ℕ) → CoveredBy M R set a k s → walk M R n (suc place) k ss ≡ ran ws
       → walk M R n place a (s ∷ ss) ≡ ran (slicesOf M (k - a) s ++ ws)
-  unfolding walk after
+  unfolding after
   walk-more place a k s ss ws c e =
       let b = bounds a k s c in
       let q : a + (k - a) ≡ k = omega arith in
-      rw (window-delivers a k s c place (n - a) (isLast ss), walk, q, e)
+      walk-gives M R n place a s ss (k - a) (window-delivers a k s c place (n - a) (isLast ss)) ∙ rw (q, e)
 
   pub walk-covering : (place : ℕ) {a b : ℕ} {es ss : List ℕ} → Covering (CoveredBy M R set) a es ss b → b ≡ n
       → (vs : List ℕ) × (walk M R n place a ss ≡ ran vs) × Agree (drop a set) vs

@@ -1,4 +1,4 @@
--- What the code of expanding works with, in terms of the definitions.
+-- What the contracts of the private functions cite, in terms of the definitions. No public contract rests on these, and a reader of those can pass them over.
 --     Ready g masks             register and chains that fit words
 --     tally done w              the slices delivered, done of them before the walk, or the cause
 --     untilStop M stop d s      the slices of the state s before its stop, at most d

@@ -5,7 +5,7 @@
 --     digit-and                  a digit of a conjunction is the lesser of the two
 --     words-equal                two words with the same digits are one
 --     xor-half, xor-low          the rest and the lowest digit of an exclusive or
---     put-same, put-other, put-below     the word with a cell set that held 0: that cell, each other cell, and the width
+--     put-same, put-other, put-below     a word with a bit put into a cell that held 0: that cell, each other cell, and the width
 --     beyond-no, no-beyond       what "a bit at or above n" says
 --     beyond-quotient            a bit at or above n is what is left of the quotient by 2 ^ n
 --     beyond-wide                a word has no bit at or above a wider width

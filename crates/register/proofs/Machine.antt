@@ -5,12 +5,12 @@
 -- Assumes nothing.
 use mathlib.Core.Path.{_≡_, refl, sym, ap, _∙_}
 use mathlib.Core.Bool.{Bool, true, false, not}
-use mathlib.Core.List.{List, [], _∷_}
-use Prim.Native.Nat.{ℕ, zero, suc, _≤_, _^_, min}
-use native.Mathlib.Nat.{le-of-suc-le-suc}
+use mathlib.Core.List.{List}
+use Prim.Native.Nat.{ℕ, _≤_, _^_, min}
 use native.Mathlib.Omega.{arith}
 use lib.Bits.{xor-zero-r}
 use lib.Dec.{ltb, leb}
+use lib.Seq.{take-all}
 use lib.ListN.{length, take}
 use borrow.Author.Tests.{leb-true, leb-false, lt-ltb, le-ltb}
 use Rattle.gf2.specs.Words.{beyond}
@@ -19,15 +19,9 @@ use Rattle.register.specs.Chains.{slice}
 use Rattle.register.specs.Machine.{machine}
 use Rattle.register.specs.declared.Settings.{Settings}
 
-take-short : (k : ℕ) (l : List ℕ) → length l ≤ k → take k l ≡ l
-take-short zero [] h = refl
-take-short zero (x ∷ l) h = absurd (omega arith)
-take-short (suc k) [] h = refl
-take-short (suc k) (x ∷ l) h = ap (λ (r : List ℕ). x ∷ r) (take-short k l (le-of-suc-le-suc h))
-
 module _ (g : Settings) (masks : List ℕ) (s : ℕ) where
   pub machine-slice : length masks ≤ 64 → slice (take 64 masks) s ≡ machine g masks .slice s
-  machine-slice h = ap (λ (l : List ℕ). slice l s) (take-short 64 masks h) ∙ sym (xor-zero-r (slice masks s))
+  machine-slice h = ap (λ (l : List ℕ). slice l s) (take-all 64 masks h) ∙ sym (xor-zero-r (slice masks s))
 
   pub machine-step : g .cells ≤ 64 → stepOf (record { cells = g .cells; taps = g .taps }) s ≡ machine g masks .step s
   unfolding stepOf

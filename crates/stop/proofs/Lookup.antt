@@ -1,12 +1,12 @@
 -- A slice that is looked up is in exactly while the published steps leave it in (document 02, R-7).
---     in-each, each-in      a slice is in: it has the stop's bit at each set position
+--     in-each, each-in                  a slice is in: it has the stop's bit at each set position
 --     one-weight                        the weight of a position
 --     unset-free, free-unset, free-bit  an unset position, and its bit
 --     put-specified, put-bits, put-here, put-bit, put-formed     a position more is set
---     in-put                after a position is set, the slices in are those that were in and have its bit
---     in-start              before the first step all are in
---     left-in               after each step, the slices that are looked up to be in are those that the step leaves in
---     count-in              the count of a choice, looked up
+--     in-put                            after a position is set, the slices in are those that were in and have its bit
+--     in-start                          before the first step all are in
+--     left-in                           the slices that a step leaves in are those that are looked up to be in after it
+--     count-in                          the count of a choice, looked up
 -- Assumes nothing.
 use mathlib.Core.Path.{_≡_, refl, sym, ap, _∙_}
 use mathlib.Core.Logic.{⊎-elim}
@@ -25,11 +25,11 @@ use Rattle.slices.specs.declared.TestSlice.{TestSlice}
 use Rattle.slices.specs.Slices.{agrees, shows}
 use Rattle.slices.proofs.Agreeing.{agrees-each, each-agrees}
 use Rattle.stop.specs.Steps.{has, isSet, filter, count, put, settle, keep, start}
-use Rattle.stop.specs.Lookup.{BitsSpecified, isIn}
+use Rattle.stop.specs.Lookup.{HasAll, BitsSpecified, isIn}
 use Rattle.stop.proofs.Filter.{filter-alike, filter-filter, filter-all}
 
 module _ (stop t : TestSlice) where
-  pub in-each : isIn stop t ≡ true → (p : ℕ) → isSet p stop ≡ true → has p (digit (stop .bits) p) t ≡ true
+  pub in-each : isIn stop t ≡ true → HasAll stop t
   unfolding isIn shows
   in-each h p s =
       let b = both (eqb (bitAnd (t .specified) (stop .specified)) (stop .specified)) (shows stop (t .bits)) h in
@@ -39,7 +39,7 @@ module _ (stop t : TestSlice) where
       let l = digit-lt (t .specified) p in
       and-yes (eqb (digit (t .specified) p) 1) (eqb (digit (t .bits) p) (digit (stop .bits) p)) (eq-eqb (digit (t .specified) p) 1 (omega arith)) (eq-eqb _ _ (agrees-each stop (t .bits) (b .1) p one))
 
-  pub each-in : BitsSpecified stop → ((p : ℕ) → isSet p stop ≡ true → has p (digit (stop .bits) p) t ≡ true) → isIn stop t ≡ true
+  pub each-in : BitsSpecified stop → HasAll stop t → isIn stop t ≡ true
   unfolding isIn shows
   each-in f each = and-yes (eqb (bitAnd (t .specified) (stop .specified)) (stop .specified)) (shows stop (t .bits)) (eq-eqb _ _ (words-equal _ _ specified-each)) (each-agrees stop (t .bits) f bits-each)
     where
@@ -103,7 +103,7 @@ module _ (stop : TestSlice) (p b : ℕ) (unset : isSet p stop ≡ false) (bit : 
     was-in : isIn (put p b stop) t ≡ true → isIn stop t && has p b t ≡ true
     was-in h = and-yes (isIn stop t) (has p b t) (each-in stop t f before) (rw put-bit at (in-each (put p b stop) t h p (eq-eqb _ 1 put-here)))
       where
-        before : (i : ℕ) → isSet i stop ≡ true → has i (digit (stop .bits) i) t ≡ true
+        before : HasAll stop t
         before i s =
             let ne : (i ≡ p → ⊥) = λ e. clash (isSet i stop) s (rw e unset) in
             rw (put-bits i ne) at (in-each (put p b stop) t h i (eq-eqb _ 1 (put-specified i ne ∙ eqb-true _ 1 s)))

@@ -20,10 +20,10 @@ use Rattle.slices.specs.declared.TestSlice.{TestSlice}
 use Rattle.slices.proofs.Causes.{slice-last, stop-formed}
 use Rattle.stop.specs.Steps.{isSet, isEmpty, Stage, stage, ended, stopFor}
 use Rattle.stop.specs.Lookup.{isIn}
-use Rattle.stop.specs.Meaning.{StopMeaning, SixMeaning}
+use Rattle.stop.specs.Meaning.{AllSet, StopMeaning, SixMeaning}
 use Rattle.stop.proofs.Filter.{filter-empty}
 use Rattle.stop.proofs.Lookup.{each-in}
-use Rattle.stop.proofs.Stages.{Sound, AllSet, Progress, stage-sound, stage-progress}
+use Rattle.stop.proofs.Stages.{Sound, Progress, stage-sound, stage-progress}
 
 module _ (chains : ℕ) (set : List TestSlice) where
   module _ (some-slice : 0 < length set) (g : Stage) (s : Sound chains set g) (empty : g .left ≡ []) where

@@ -4,8 +4,8 @@
 --     stage-specified, next-stage          the stop slice of a stage; one step more
 --     form-stop, form-six                  the answer when the steps have ended
 -- Assumes nothing.
-use mathlib.Core.Path.{_≡_, refl, sym, ap, ap₂, _∙_}
-use mathlib.Core.Bool.{Bool, true, false}
+use mathlib.Core.Path.{_≡_, refl, sym, ap, _∙_}
+use mathlib.Core.Bool.{true, false}
 use mathlib.Core.Option.{Option, none, some}
 use mathlib.Core.List.{List, [], _∷_}
 use Prim.Native.Nat.{ℕ, _+_, _-_, _*_, _/_, _%_, _≤_}
@@ -14,7 +14,7 @@ use native.Mathlib.Omega.{arith}
 use lib.ListN.{length}
 use Rattle.slices.specs.declared.TestSlice.{TestSlice}
 use Rattle.slices.specs.Slices.{paired}
-use Rattle.stop.specs.Steps.{count, choice, put, settle, isEmpty, Stage, setBy, advance, stage, ended, stopFor}
+use Rattle.stop.specs.Steps.{choice, put, settle, isEmpty, Stage, setBy, advance, stage, ended, stopFor}
 use Rattle.stop.specs.Lookup.{BitsSpecified, inCount}
 use Rattle.stop.specs.Code.{Unset, tracked, inOf, countIn, chosen, nextOf}
 use Rattle.stop.specs.Entry.{stopOr6}
@@ -22,24 +22,16 @@ use Rattle.stop.specs.declared.Best.the-variants.{Nothing, Choice}
 use Rattle.stop.specs.declared.Formed.{Formed}
 use Rattle.stop.specs.declared.Formed.the-variants.{Stop, Refused}
 use Rattle.stop.proofs.Choice.{Chosen, choice-is}
-use Rattle.stop.proofs.Stages.{stage-sound, stage-left}
+use Rattle.stop.proofs.Stages.{advanced, stage-sound, stage-left}
 use Rattle.causes.specs.declared.Cause.the-variants as cause
 
-none-in : (l : List TestSlice) → length l ≡ 0 → isEmpty l ≡ true
-none-in [] e = refl
-none-in (x ∷ xs) e = absurd (omega arith)
+empty-zero : (l : List TestSlice) → length l ≡ 0 → isEmpty l ≡ true
+empty-zero [] e = refl
+empty-zero (x ∷ xs) e = absurd (omega arith)
 
-some-in : (l : List TestSlice) → (length l ≡ 0 → ⊥) → isEmpty l ≡ false
-some-in [] e = absurd (e refl)
-some-in (x ∷ xs) e = refl
-
--- the stage after a step, by whether a slice is in and by the choice
-abbrev moved : Stage → Bool → Option ℕ → Stage
-moved g b o = elim b [ true ↦ g | false ↦ elim o [ none ↦ g | some q ↦ setBy q g ] ]
-
-advanced : (chains : ℕ) (g : Stage) (b : Bool) (o : Option ℕ) → isEmpty (g .left) ≡ b → choice (g .stop) (λ q. count q (g .left)) (2 * chains) ≡ o → advance chains g ≡ moved g b o
-unfolding advance
-advanced chains g b o e f = ap₂ (moved g) e f
+empty-more : (l : List TestSlice) → (length l ≡ 0 → ⊥) → isEmpty l ≡ false
+empty-more [] e = absurd (e refl)
+empty-more (x ∷ xs) e = refl
 
 module _ (chains : ℕ) (stop : TestSlice) (specified bits : List ℕ) where
   abbrev counts : ℕ → ℕ
@@ -69,16 +61,16 @@ module _ (chains : ℕ) (stop : TestSlice) (specified bits : List ℕ) where
 
   pub next-empty : inCount stop specified bits ≡ 0 → nextOf chains stop specified bits ≡ stop
   unfolding inCount nextOf
-  next-empty e = ap (λ (g : Stage). g .stop) (advanced chains here _ _ (none-in (inOf stop specified bits) e) refl)
+  next-empty e = ap (λ (g : Stage). g .stop) (advanced chains here _ _ (empty-zero (inOf stop specified bits) e) refl)
 
   pub next-none : (inCount stop specified bits ≡ 0 → ⊥) → chosen chains stop specified bits ≡ Nothing → nextOf chains stop specified bits ≡ stop
   unfolding inCount nextOf
-  next-none f e = ap (λ (g : Stage). g .stop) (advanced chains here _ _ (some-in (inOf stop specified bits) f) (no-choice e))
+  next-none f e = ap (λ (g : Stage). g .stop) (advanced chains here _ _ (empty-more (inOf stop specified bits) f) (no-choice e))
 
   pub next-some : (q n : ℕ) → (inCount stop specified bits ≡ 0 → ⊥) → chosen chains stop specified bits ≡ Choice q n
       → nextOf chains stop specified bits ≡ put (q / 2) (1 - q % 2) stop
   unfolding inCount nextOf setBy settle
-  next-some q n f e = ap (λ (g : Stage). g .stop) (advanced chains here _ _ (some-in (inOf stop specified bits) f) (the-choice q n e))
+  next-some q n f e = ap (λ (g : Stage). g .stop) (advanced chains here _ _ (empty-more (inOf stop specified bits) f) (the-choice q n e))
 
   pub chosen-unset : (q n : ℕ) → chains ≤ 64 → BitsSpecified stop → chosen chains stop specified bits ≡ Choice q n → Unset (q / 2) stop
   chosen-unset q n l f e =
@@ -114,8 +106,8 @@ module _ (chains : ℕ) (specified bits : List ℕ) where
 
     pub form-stop : inCount stop specified bits ≡ 0 → Stop stop ≡ stopOr6 (stopFor chains set)
     unfolding inCount stopOr6 by
-    form-stop e = sym (answer ∙ rw (ends, none-in (inOf stop specified bits) e, by) (ap Stop ends))
+    form-stop e = sym (answer ∙ rw (ends, empty-zero (inOf stop specified bits) e, by) (ap Stop ends))
 
     pub form-six : (inCount stop specified bits ≡ 0 → ⊥) → Refused cause.SlicesIn ≡ stopOr6 (stopFor chains set)
     unfolding inCount stopOr6 by
-    form-six f = sym (answer ∙ rw (ends, some-in (inOf stop specified bits) f, by))
+    form-six f = sym (answer ∙ rw (ends, empty-more (inOf stop specified bits) f, by))

@@ -2,10 +2,11 @@
 --     Sound chains set g     the stop slice so far is well-formed, and the slices still in are those that are looked up to be in
 --     stage-sound            so it is after each step
 --     stage-left             after each step, the slices that are looked up to be in are just those that the published steps leave in
---     AllSet, Progress       no position is unset; after k steps no slice is in, or no position is unset, or k positions are set
+--     moved, advanced        the stage after a step, by whether no slice is in and by the choice
+--     Progress chains k g    after k steps no slice is in, or no position is unset, or k positions are set
 --     stage-progress         so it is
 -- Assumes nothing.
-use mathlib.Core.Path.{_≡_, refl, sym, ap, _∙_}
+use mathlib.Core.Path.{_≡_, refl, sym, ap, ap₂, _∙_}
 use mathlib.Core.Logic.{_⊎_, inl, inr}
 use mathlib.Core.Bool.{Bool, true, false}
 use mathlib.Core.Option.{Option, none, some}
@@ -21,6 +22,7 @@ use Rattle.gf2.proofs.Ones.{ones-put}
 use Rattle.slices.specs.declared.TestSlice.{TestSlice}
 use Rattle.stop.specs.Steps.{isSet, filter, count, choice, settle, keep, isEmpty, Stage, start, setBy, advance, stage}
 use Rattle.stop.specs.Lookup.{BitsSpecified, isIn}
+use Rattle.stop.specs.Meaning.{AllSet}
 use Rattle.stop.proofs.Choice.{Chosen, ChoiceIs, choice-is}
 use Rattle.stop.proofs.Lookup.{one-weight, unset-free, put-formed, in-start, left-in}
 
@@ -29,8 +31,13 @@ pub record Sound (chains : ℕ) (set : List TestSlice) (g : Stage) : Type 0 wher
   pub below : g .stop .specified < 2 ^ chains
   pub in-left : filter (isIn (g .stop)) set ≡ g .left
 
-abbrev pub AllSet : ℕ → TestSlice → Type 0
-AllSet chains stop = (p : ℕ) → p < chains → isSet p stop ≡ true
+-- a step, by whether no slice is in and by the choice
+abbrev pub moved : Stage → Bool → Option ℕ → Stage
+moved g b o = elim b [ true ↦ g | false ↦ elim o [ none ↦ g | some q ↦ setBy q g ] ]
+
+pub advanced : (chains : ℕ) (g : Stage) (b : Bool) (o : Option ℕ) → isEmpty (g .left) ≡ b → choice (g .stop) (λ q. count q (g .left)) (2 * chains) ≡ o → advance chains g ≡ moved g b o
+unfolding advance
+advanced chains g b o e f = ap₂ (moved g) e f
 
 abbrev pub Progress : ℕ → ℕ → Stage → Type 0
 Progress chains k g = (isEmpty (g .left) ≡ true) ⊎ (AllSet chains (g .stop) ⊎ (k ≤ ones (g .stop .specified)))
@@ -55,7 +62,7 @@ module _ (chains : ℕ) (set : List TestSlice) where
     unfolding advance
     advance-sound = go (isEmpty (g .left)) (choice (g .stop) counts (2 * chains)) (choice-is (g .stop) counts (2 * chains))
       where
-        go : (b : Bool) (o : Option ℕ) → ChoiceIs (g .stop) counts (2 * chains) o → Sound chains set (elim b [ true ↦ g | false ↦ elim o [ none ↦ g | some q ↦ setBy q g ] ])
+        go : (b : Bool) (o : Option ℕ) → ChoiceIs (g .stop) counts (2 * chains) o → Sound chains set (moved g b o)
         go true o c = s
         go false none c = s
         go false (some q) c = set-sound q c
@@ -70,7 +77,7 @@ module _ (chains : ℕ) (set : List TestSlice) where
         more q c (inr (inr l)) f = inr (inr (omega (arith, ones-put (g .stop .specified) (q / 2) (unset-free (g .stop) (q / 2) (c .unset)))))
 
         go : (b : Bool) → isEmpty (g .left) ≡ b → (o : Option ℕ) → ChoiceIs (g .stop) counts (2 * chains) o
-            → Progress chains (suc k) (elim b [ true ↦ g | false ↦ elim o [ none ↦ g | some q ↦ setBy q g ] ])
+            → Progress chains (suc k) (moved g b o)
         go true e o c = inl e
         go false e none all = inr (inl (λ i h. let d : 2 * i / 2 ≡ i = omega arith in rw d at (all (2 * i) (omega arith))))
         go false e (some q) c = more q c p e

@@ -1,4 +1,4 @@
--- What the code of the steps works with, in terms of the published definitions.
+-- What the contracts of the private functions cite, in terms of the published definitions. No public contract rests on these, and a reader of those can pass them over.
 --     Unset p stop              position p of a word is unset in a stop slice whose bits are specified
 --     tracked counts o          the best choice with its count
 --     track q n best            the choice q of count n against the best of the lower choices

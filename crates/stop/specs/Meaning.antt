@@ -1,5 +1,5 @@
 -- What the stop slice of a set is good for, and what refusal 6 says (document 01, "Stop slice steps").
---     HasAll stop t             the test slice t has the stop's bit at each specified position of the stop
+--     AllSet chains stop        no position of the stop slice is unset
 --     StopMeaning chains set stop     of a stop slice: it is well-formed, it has a specified position, and no test slice has all its bits
 --     SixMeaning chains set     of refusal 6: slices are in, and no position is unset
 use mathlib.Core.Path.{_≡_}
@@ -7,13 +7,13 @@ use mathlib.Core.Bool.{true, false}
 use mathlib.Core.List.{List}
 use Prim.Native.Nat.{ℕ, _<_}
 use lib.ListN.{length, getD}
-use Rattle.gf2.specs.Words.{digit}
 use Rattle.slices.specs.declared.TestSlice.{TestSlice}
 use Rattle.slices.specs.Slices.{badStop}
-use Rattle.stop.specs.Steps.{has, isSet, isEmpty, stage}
+use Rattle.stop.specs.Steps.{isSet, isEmpty, stage}
+use Rattle.stop.specs.Lookup.{HasAll}
 
-abbrev pub HasAll : TestSlice → TestSlice → Type 0
-HasAll stop t = (p : ℕ) → isSet p stop ≡ true → has p (digit (stop .bits) p) t ≡ true
+abbrev pub AllSet : ℕ → TestSlice → Type 0
+AllSet chains stop = (p : ℕ) → p < chains → isSet p stop ≡ true
 
 pub record StopMeaning (chains : ℕ) (set : List TestSlice) (stop : TestSlice) : Type 0 where
   pub formed : badStop chains stop ≡ false
@@ -22,4 +22,4 @@ pub record StopMeaning (chains : ℕ) (set : List TestSlice) (stop : TestSlice) 
 
 pub record SixMeaning (chains : ℕ) (set : List TestSlice) : Type 0 where
   pub slices-in : isEmpty (stage chains set chains .left) ≡ false
-  pub all-set : (p : ℕ) → p < chains → isSet p (stage chains set chains .stop) ≡ true
+  pub all-set : AllSet chains (stage chains set chains .stop)

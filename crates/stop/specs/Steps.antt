@@ -10,7 +10,7 @@
 --     keep q xs             the slices that have the counted bit or x there are removed
 --     isEmpty xs            no slice is in
 --     Stage, start set      the stop slice so far, and the slices still in; before the first step
---     setBy q g             the stage after the choice q
+--     setBy q g             the stage after the choice q is set
 --     advance chains g      the stage after one step more
 --     stage chains set k    the stage after k steps
 --     ended g               the stop slice when the steps have ended, or none where slices are in
