@@ -1,15 +1,13 @@
 // The library's expanding of seed lists against the second program's: the answer, and every entry of the lent buffer.
 
 use crate::call::Call;
-use crate::inputs::lawful;
-use crate::library::Answer;
+use crate::inputs::{damage_stop, lawful};
+use crate::lent::lend;
 use crate::random::Random;
 use crate::report::{same, Outcome};
+use crate::runs::{pool, walk, Pool};
 use crate::seen::Seen;
 use second::Refused;
-
-/// Entries on each side of a lent buffer that are no part of it.
-const MARGIN: usize = 2;
 
 /// Notes the second program's answer, and of a refused seed where it stands in its list.
 fn note(call: &Call, told: &Result<usize, Refused>, seen: &mut Seen) {
@@ -26,27 +24,13 @@ fn note(call: &Call, told: &Result<usize, Refused>, seen: &mut Seen) {
     }
 }
 
-/// One call with a lent buffer of `room` random words. The entries on its sides are compared too.
+/// One call with a lent buffer of `room` entries.
 fn compare(random: &mut Random, call: &Call, room: usize, seen: &mut Seen) -> Outcome {
-    let lent: Vec<u64> = (0..room + 2 * MARGIN).map(|_| random.word()).collect();
-    let (mut ours, mut theirs) = (lent.clone(), lent.clone());
-    let buffer = MARGIN..MARGIN + room;
-    let told = call.expand(&call.seeds, &mut theirs[buffer.clone()]);
-    let answer = call.expanded(&mut ours[buffer]);
+    let ours = |out: &mut [u64]| call.expanded(out);
+    let theirs = |out: &mut [u64]| call.expand(&call.seeds, out);
+    let (told, _) = lend(random, room, ours, theirs)
+        .map_err(|why| format!("{why}, {room} entries lent to {call:x?}"))?;
     note(call, &told, seen);
-    let with = |why: String| format!("{why}, {room} entries lent to {call:x?}");
-    same("the answer", answer, Answer::from(told)).map_err(with)?;
-    if told.is_err() && theirs != lent {
-        return Err(with("the second program writes on refusal".into()));
-    }
-    for (place, (ours, theirs)) in ours.iter().zip(&theirs).enumerate() {
-        if ours != theirs {
-            let why = format!(
-                "entry {place} of {MARGIN} + {room} + {MARGIN}: {ours:x} against {theirs:x}"
-            );
-            return Err(with(why));
-        }
-    }
     Ok(2)
 }
 
@@ -58,85 +42,6 @@ fn compare_rooms(random: &mut Random, call: &Call, total: usize, seen: &mut Seen
         count += compare(random, call, room, seen)?;
     }
     Ok(count)
-}
-
-/// A lawful call with states to take its seeds from, and what the second program says to each alone.
-struct Pool {
-    call: Call,
-    /// States that run into the stop, with the number of their slices.
-    running: Vec<(u64, usize)>,
-    /// Seeds that are refused, with the number of their refusal.
-    refused: Vec<(u64, u64)>,
-}
-
-/// What the second program says to a seed alone: its number of slices, or its refusal. No seed alone comes to 2,048 slices.
-fn alone(call: &Call, seed: u64) -> Result<usize, u64> {
-    let one = Call {
-        slices: second::MOST_SLICES,
-        ..call.clone()
-    };
-    match one.expand(&[seed], &mut []) {
-        Err(refused) if refused.number == 14 => Ok(refused.value as usize),
-        Err(refused) => Err(refused.number),
-        Ok(count) => Ok(count),
-    }
-}
-
-impl Pool {
-    fn new(call: Call, seeds: &[u64]) -> Pool {
-        let (mut running, mut refused) = (Vec::new(), Vec::new());
-        for &seed in seeds {
-            match alone(&call, seed) {
-                Ok(slices) => running.push((seed, slices)),
-                Err(number) => refused.push((seed, number)),
-            }
-        }
-        Pool {
-            call,
-            running,
-            refused,
-        }
-    }
-
-    /// The call with up to `most` seeds that run, now and then with none, and their total.
-    fn list(&self, random: &mut Random, most: usize) -> (Call, usize) {
-        let mut call = self.call.clone();
-        call.seeds.clear();
-        let mut total = 0;
-        if !self.running.is_empty() && !random.one_in(10) {
-            for _ in 0..random.between(1, most) {
-                let (seed, slices) = self.running[random.between(0, self.running.len() - 1)];
-                call.seeds.push(seed);
-                total += slices;
-            }
-        }
-        call.slices = total;
-        (call, total)
-    }
-}
-
-/// Registers whose stop slice is shown some steps after a random state; the states in between are among the pool's.
-fn pool(random: &mut Random, most_cells: usize, most_chains: usize) -> Pool {
-    let mut call = lawful(random, most_cells, most_chains, 1);
-    let (cells, chains) = (call.cells, call.masks.len());
-    let mut seeds = vec![0];
-    let mut state = random.bits(cells);
-    let steps = [1, 5, 20, 290][random.between(0, 3)];
-    for left in (1..=steps).rev() {
-        if left == 1 || random.one_in(4) {
-            seeds.push(state);
-        }
-        state = second::step(cells as u64, call.taps, state);
-    }
-    let percent = [15, 40, 100][random.between(0, 2)];
-    let specified = random.sparse(chains, percent).max(1);
-    call.stop = (specified, second::slice(&call.masks, state) & specified);
-    seeds.push(state);
-    for place in 0..14 {
-        let far = if place < 2 { random.beyond(cells) } else { 0 };
-        seeds.push(random.bits(cells) | far);
-    }
-    Pool::new(call, &seeds)
 }
 
 /// Puts a refused seed first, in the middle, last or anywhere.
@@ -175,26 +80,6 @@ fn compare_refused(random: &mut Random, pool: &Pool, seen: &mut Seen) -> Outcome
         }
     }
     compare_rooms(random, &call, total, seen)
-}
-
-/// A stop slice with no specified position, with a bit where it is unspecified, or with a bit beyond the chains.
-fn damage_stop(random: &mut Random, call: &mut Call) {
-    let chains = call.masks.len();
-    let inside = 1 << random.between(0, chains.clamp(1, 64) - 1);
-    let far = random.beyond(chains);
-    match random.below(5) {
-        0 => call.stop.0 = 0,
-        1 => call.stop = (0, 0),
-        2 => {
-            call.stop.0 &= !inside;
-            call.stop.1 |= inside;
-        }
-        3 => call.stop.0 |= far,
-        _ => {
-            call.stop.0 |= far;
-            call.stop.1 |= far;
-        }
-    }
 }
 
 /// Damages one part of a list: register, chains, total, number of seeds or stop slice.
@@ -268,30 +153,6 @@ fn encoded(random: &mut Random, sizes: (usize, usize, usize), seen: &mut Seen) -
     call.seeds[random.between(0, number - 1)] ^= 1 << random.between(0, call.cells - 1);
     count += compare(random, &call, total, seen)?;
     Ok(count)
-}
-
-/// A register whose chains each read a cell of their own, and its states from the stop back to 257 steps before it.
-/// By the second program the stop is first shown in slice 256 of the last but one, and in none of slices 0 to 256 of the last.
-fn walk(random: &mut Random, cells: usize) -> (Call, Vec<u64>) {
-    let mut call = lawful(random, 1, 1, 1);
-    call.cells = cells;
-    call.masks = (0..cells).map(|cell| 1 << cell).collect();
-    loop {
-        call.taps = random.bits(cells) | 1 << (cells - 1);
-        random.shuffle(&mut call.masks);
-        let mut state = random.bits(cells);
-        let mut states = vec![state];
-        for _ in 0..257 {
-            state = second::step(cells as u64, call.taps, state);
-            states.push(state);
-        }
-        states.reverse();
-        let all = u64::MAX >> (64 - cells);
-        call.stop = (all, second::slice(&call.masks, state));
-        if alone(&call, states[256]) == Ok(256) && alone(&call, states[257]) == Err(12) {
-            return (call, states);
-        }
-    }
 }
 
 fn refused(number: u64, value: u64) -> Result<usize, Refused> {

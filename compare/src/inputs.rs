@@ -51,6 +51,14 @@ pub fn lawful(
     }
 }
 
+/// Blanks most of the specified bits, so that more windows have a seed.
+pub fn thin(random: &mut Random, call: &mut Call) {
+    for (specified, bits) in call.specified.iter_mut().zip(&mut call.bits) {
+        *specified &= random.word() & random.word();
+        *bits &= *specified;
+    }
+}
+
 /// Damages one part of a call.
 pub fn damage(random: &mut Random, call: &mut Call) {
     let chains = call.masks.len();
@@ -138,5 +146,48 @@ pub fn damage_lightly(random: &mut Random, call: &mut Call) {
         7 => call.bits[place] = random.bits(chains + 1),
         8 => call.specified[place] = random.bits(chains + 1),
         _ => call.stop = (random.bits(chains + 1), random.bits(chains)),
+    }
+}
+
+/// A stop slice with no specified position, with a bit where it is unspecified, or with a bit beyond the chains.
+pub fn damage_stop(random: &mut Random, call: &mut Call) {
+    let chains = call.masks.len();
+    let inside = 1 << random.between(0, chains.clamp(1, 64) - 1);
+    let far = random.beyond(chains);
+    match random.below(5) {
+        0 => call.stop.0 = 0,
+        1 => call.stop = (0, 0),
+        2 => {
+            call.stop.0 &= !inside;
+            call.stop.1 |= inside;
+        }
+        3 => call.stop.0 |= far,
+        _ => {
+            call.stop.0 |= far;
+            call.stop.1 |= far;
+        }
+    }
+}
+
+/// Damages one slice: bits beyond the chains, or one set where it is unspecified.
+pub fn damage_slice(random: &mut Random, chains: usize, specified: &mut [u64], bits: &mut [u64]) {
+    let count = specified.len().min(bits.len());
+    if count == 0 {
+        return;
+    }
+    let at = [0, random.between(0, count - 1), count - 1][random.between(0, 2)];
+    let far = random.beyond(chains);
+    let inside = 1 << random.between(0, chains.clamp(1, 64) - 1);
+    match random.below(4) {
+        0 => specified[at] |= far,
+        1 => bits[at] |= far,
+        2 => {
+            specified[at] |= far;
+            bits[at] |= far;
+        }
+        _ => {
+            specified[at] &= !inside;
+            bits[at] |= inside;
+        }
     }
 }

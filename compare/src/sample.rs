@@ -2,7 +2,7 @@
 // The proof checker computes each answer from the definitions of specs/ and refuses the file where one differs.
 
 use crate::call::Call;
-use crate::inputs::{damage_lightly, lawful};
+use crate::inputs::{damage_lightly, lawful, thin};
 use crate::random::Random;
 use second::Refused;
 use std::collections::{BTreeMap, BTreeSet};
@@ -159,14 +159,6 @@ fn outcome(answer: Result<usize, Refused>, buffer: &[u64]) -> String {
 
 fn settings(call: &Call) -> String {
     format!("(base {} {}) {}", call.cells, call.taps, list(&call.masks))
-}
-
-/// Blanks most of the specified bits, so that more windows have a seed.
-fn thin(random: &mut Random, call: &mut Call) {
-    for (specified, bits) in call.specified.iter_mut().zip(&mut call.bits) {
-        *specified &= random.word() & random.word();
-        *bits &= *specified;
-    }
 }
 
 /// A small call, whole or damaged.

@@ -1,5 +1,6 @@
 // The library's stop slice steps against the second program's: the answers for whole and damaged sets, and the counts of the slices still in.
 
+use crate::inputs::damage_slice;
 use crate::library::{self, StopAnswer};
 use crate::random::Random;
 use crate::report::{same, Outcome};
@@ -118,29 +119,6 @@ fn wide(random: &mut Random) -> Set {
     }
 }
 
-/// Damages one slice: bits beyond the chains, or one set where it is unspecified.
-fn damage_slice(random: &mut Random, set: &mut Set) {
-    let count = set.specified.len().min(set.bits.len());
-    if count == 0 {
-        return;
-    }
-    let at = [0, random.between(0, count - 1), count - 1][random.between(0, 2)];
-    let far = random.beyond(set.chains);
-    let inside = 1 << random.between(0, set.chains.clamp(1, 64) - 1);
-    match random.below(4) {
-        0 => set.specified[at] |= far,
-        1 => set.bits[at] |= far,
-        2 => {
-            set.specified[at] |= far;
-            set.bits[at] |= far;
-        }
-        _ => {
-            set.specified[at] &= !inside;
-            set.bits[at] |= inside;
-        }
-    }
-}
-
 /// Damages one part of a set: its number of chains, its length, one of its lists or one of its slices.
 fn damage(random: &mut Random, set: &mut Set) {
     match random.below(12) {
@@ -154,7 +132,7 @@ fn damage(random: &mut Random, set: &mut Set) {
         7 => set.bits.push(0),
         8 => set.specified.resize([0, 2_049][random.between(0, 1)], 0),
         9 => set.bits.resize([0, 2_049][random.between(0, 1)], 0),
-        _ => damage_slice(random, set),
+        _ => damage_slice(random, set.chains, &mut set.specified, &mut set.bits),
     }
 }
 

@@ -1,0 +1,113 @@
+// Registers with states that run into a stop slice, and what the second program says to each of these states alone.
+
+use crate::call::Call;
+use crate::inputs::lawful;
+use crate::random::Random;
+
+/// A lawful call with states to take its seeds from, and what the second program says to each alone.
+pub struct Pool {
+    call: Call,
+    /// States that run into the stop, with the number of their slices.
+    running: Vec<(u64, usize)>,
+    /// Seeds that are refused, with the number of their refusal.
+    pub refused: Vec<(u64, u64)>,
+}
+
+/// What the second program says to a seed alone: its number of slices, or its refusal. No seed alone comes to 2,048 slices.
+pub fn alone(call: &Call, seed: u64) -> Result<usize, u64> {
+    let one = Call {
+        slices: second::MOST_SLICES,
+        ..call.clone()
+    };
+    match one.expand(&[seed], &mut []) {
+        Err(refused) if refused.number == 14 => Ok(refused.value as usize),
+        Err(refused) => Err(refused.number),
+        Ok(count) => Ok(count),
+    }
+}
+
+impl Pool {
+    fn new(call: Call, seeds: &[u64]) -> Pool {
+        let (mut running, mut refused) = (Vec::new(), Vec::new());
+        for &seed in seeds {
+            match alone(&call, seed) {
+                Ok(slices) => running.push((seed, slices)),
+                Err(number) => refused.push((seed, number)),
+            }
+        }
+        Pool {
+            call,
+            running,
+            refused,
+        }
+    }
+
+    /// The call with up to `most` seeds that run, now and then with none, and their total.
+    pub fn list(&self, random: &mut Random, most: usize) -> (Call, usize) {
+        let mut call = self.call.clone();
+        call.seeds.clear();
+        let mut total = 0;
+        if !self.running.is_empty() && !random.one_in(10) {
+            for _ in 0..random.between(1, most) {
+                let (seed, slices) = self.running[random.between(0, self.running.len() - 1)];
+                call.seeds.push(seed);
+                total += slices;
+            }
+        }
+        call.slices = total;
+        (call, total)
+    }
+}
+
+/// A pool for a register of at most so many cells and chains.
+pub fn pool(random: &mut Random, most_cells: usize, most_chains: usize) -> Pool {
+    let call = lawful(random, most_cells, most_chains, 1);
+    pool_of(random, call)
+}
+
+/// The call gets a stop slice that is shown some steps after a random state; the states in between are among the pool's.
+pub fn pool_of(random: &mut Random, mut call: Call) -> Pool {
+    let (cells, chains) = (call.cells, call.masks.len());
+    let mut seeds = vec![0];
+    let mut state = random.bits(cells);
+    let steps = [1, 5, 20, 290][random.between(0, 3)];
+    for left in (1..=steps).rev() {
+        if left == 1 || random.one_in(4) {
+            seeds.push(state);
+        }
+        state = second::step(cells as u64, call.taps, state);
+    }
+    let percent = [15, 40, 100][random.between(0, 2)];
+    let specified = random.sparse(chains, percent).max(1);
+    call.stop = (specified, second::slice(&call.masks, state) & specified);
+    seeds.push(state);
+    for place in 0..14 {
+        let far = if place < 2 { random.beyond(cells) } else { 0 };
+        seeds.push(random.bits(cells) | far);
+    }
+    Pool::new(call, &seeds)
+}
+
+/// A register whose chains each read a cell of their own, and its states from the stop back to 257 steps before it.
+/// By the second program the stop is first shown in slice 256 of the last but one, and in none of slices 0 to 256 of the last.
+pub fn walk(random: &mut Random, cells: usize) -> (Call, Vec<u64>) {
+    let mut call = lawful(random, 1, 1, 1);
+    call.cells = cells;
+    call.masks = (0..cells).map(|cell| 1 << cell).collect();
+    loop {
+        call.taps = random.bits(cells) | 1 << (cells - 1);
+        random.shuffle(&mut call.masks);
+        let mut state = random.bits(cells);
+        let mut states = vec![state];
+        for _ in 0..257 {
+            state = second::step(cells as u64, call.taps, state);
+            states.push(state);
+        }
+        states.reverse();
+        let all = u64::MAX >> (64 - cells);
+        call.stop = (all, second::slice(&call.masks, state));
+        if alone(&call, states[256]) == Ok(256) && alone(&call, states[257]) == Err(12) {
+            return (call, states);
+        }
+    }
+}
