@@ -1,15 +1,12 @@
-// Document 01's bench examples, starred and not, through the second program.
+// Document 01's bench examples, starred and not: the calls that they make, and the second program's answers.
 
+use crate::call::{refused, Call};
 use crate::report::{same, Outcome};
 use second::Refused;
 
-const R_CELLS: u64 = 3;
+const R_CELLS: usize = 3;
 const R_TAPS: u64 = 6;
 const R_MASKS: [u64; 2] = [1, 4];
-
-fn refused<T>(number: u64, value: u64) -> Result<T, Refused> {
-    Err(Refused { number, value })
-}
 
 /// Slices as document 01 writes them, as two lists.
 fn written(slices: &[&str]) -> (Vec<u64>, Vec<u64>) {
@@ -17,62 +14,99 @@ fn written(slices: &[&str]) -> (Vec<u64>, Vec<u64>) {
     slices.iter().map(read).unzip()
 }
 
-fn stop_of(slices: &[&str]) -> Result<(u64, u64), Refused> {
+/// A call for R with a stop slice and test slices as document 01 writes them; its cubes have one slice.
+pub fn of_r(stop: &str, slices: &[&str]) -> Call {
     let (specified, bits) = written(slices);
-    second::stop_slice(slices[0].len() as u64, &specified, &bits)
-}
-
-fn window(stop: &str, slices: &[&str]) -> Result<u64, Refused> {
-    let (specified, bits) = written(slices);
-    let (stop_specified, stop_bits) = second::slice_of(stop.as_bytes(), 2).expect("a stop slice");
-    second::window_seed(
-        R_CELLS,
-        R_TAPS,
-        &R_MASKS,
-        stop_specified,
-        stop_bits,
-        &specified,
-        &bits,
-    )
-}
-
-fn set(stop: &str, slices: &[&str], out: &mut [u64]) -> Result<usize, Refused> {
-    let (specified, bits) = written(slices);
-    let (stop_specified, stop_bits) = second::slice_of(stop.as_bytes(), 2).expect("a stop slice");
-    second::encode_set(
-        R_CELLS,
-        R_TAPS,
-        &R_MASKS,
-        stop_specified,
-        stop_bits,
-        &specified,
-        &bits,
-        out,
-    )
-}
-
-fn expand(stop: &str, total: u64, seeds: &[u64], out: &mut [u64]) -> Result<usize, Refused> {
-    let (stop_specified, stop_bits) = second::slice_of(stop.as_bytes(), 2).expect("a stop slice");
-    second::expand(
-        R_CELLS,
-        R_TAPS,
-        &R_MASKS,
-        stop_specified,
-        stop_bits,
-        total,
-        seeds,
-        out,
-    )
-}
-
-/// The starred examples.
-pub fn starred() -> Outcome {
-    let mut state = 1;
-    for next in [2, 5, 3, 7, 6, 4, 1] {
-        state = second::step(R_CELLS, R_TAPS, state);
-        same("R from state 1", state, next)?;
+    Call {
+        cells: R_CELLS,
+        taps: R_TAPS,
+        masks: R_MASKS.to_vec(),
+        stop: second::slice_of(stop.as_bytes(), 2).expect("a stop slice"),
+        depth: 1,
+        slices: specified.len(),
+        specified,
+        bits,
+        seeds: Vec::new(),
     }
-    let figure = [
+}
+
+/// The call with so many slices of all x.
+pub fn all_x(call: Call, count: usize) -> Call {
+    Call {
+        specified: vec![0; count],
+        bits: vec![0; count],
+        slices: count,
+        ..call
+    }
+}
+
+/// 64 cells of which cell 63 alone is tapped, and read by the one chain: the state goes round in 64 steps.
+pub fn one_tap() -> Call {
+    Call {
+        cells: 64,
+        taps: 1 << 63,
+        masks: vec![1 << 63],
+        stop: (1, 1),
+        ..of_r("1x", &[])
+    }
+}
+
+/// 9 cells that go round in 511 steps, each read by a chain; the stop is the state 1.
+pub fn long_period() -> Call {
+    Call {
+        cells: 9,
+        taps: 0x110,
+        masks: (0..9).map(|cell| 1 << cell).collect(),
+        stop: (0x1ff, 1),
+        ..of_r("1x", &[])
+    }
+}
+
+/// R with two equal masks.
+pub fn equal_masks() -> Call {
+    Call {
+        masks: vec![1, 1],
+        ..of_r("1x", &[])
+    }
+}
+
+/// The starred windows.
+pub fn starred_windows() -> Vec<(Call, Result<u64, Refused>)> {
+    vec![
+        (of_r("01", &["10", "x1"]), Ok(3)),
+        (of_r("01", &["10"]), refused(7, 0)),
+        (of_r("01", &["xx", "xx"]), Ok(3)),
+        (of_r("01", &["11", "xx"]), refused(7, 0)),
+    ]
+}
+
+/// The starred set.
+pub fn starred_set() -> (Call, Result<Vec<u64>, Refused>) {
+    (of_r("01", &["1x", "0x"]), refused(8, 1))
+}
+
+/// The starred sheet as a call, with its stop slice and its seeds.
+pub fn sheet_set() -> (Call, Result<Vec<u64>, Refused>) {
+    let call = Call {
+        depth: 2,
+        ..of_r("0x", &["10", "x1", "1x", "1x"])
+    };
+    (call, Ok(vec![3, 3]))
+}
+
+/// The starred sets whose stop slice steps end with slices in.
+pub fn starred_in() -> [Call; 2] {
+    let one_chain = Call {
+        masks: vec![1],
+        ..of_r("0x", &["0", "1"])
+    };
+    let two_chains = of_r("0x", &["1x", "1x", "1x", "10", "00", "01"]);
+    [one_chain, two_chains]
+}
+
+/// Document 004's figure 2 with its stop slice, for a register of 64 cells of which each chain reads many.
+pub fn figure_set() -> Call {
+    let slices = [
         "x001x10x11",
         "10xx0010xx",
         "xx10xx01x1",
@@ -80,26 +114,72 @@ pub fn starred() -> Outcome {
         "01x11xx110",
         "x0xxxxxxxx",
     ];
-    let stop = second::slice_of(b"x1xxxxx0xx", 10).expect("a stop slice");
-    same("figure 2", stop_of(&figure), Ok(stop))?;
-    same("one chain, 0 and 1", stop_of(&["0", "1"]), refused(6, 0))?;
-    same(
-        "1x, 1x, 1x, 10, 00, 01",
-        stop_of(&["1x", "1x", "1x", "10", "00", "01"]),
-        refused(6, 0),
-    )?;
-    same("window 10, x1", window("01", &["10", "x1"]), Ok(3))?;
-    same("window 10", window("01", &["10"]), refused(7, 0))?;
-    same("window xx, xx", window("01", &["xx", "xx"]), Ok(3))?;
-    same("window 11, xx", window("01", &["11", "xx"]), refused(7, 0))?;
-    same(
-        "set 1x, 0x",
-        set("01", &["1x", "0x"], &mut [9; 4]),
-        refused(8, 1),
-    )?;
-    same("seed 6", expand("01", 1, &[6], &mut [9; 4]), refused(11, 0))?;
-    same("seed 0", expand("01", 1, &[0], &mut [9; 4]), refused(12, 0))?;
-    Ok(17)
+    let mask = |chain: u32| 0x9e37_79b9_7f4a_7c15u64.rotate_left(7 * chain);
+    Call {
+        cells: 64,
+        taps: 0xd800_0000_0000_0000,
+        masks: (0..10).map(mask).collect(),
+        stop: second::slice_of(b"x1xxxxx0xx", 10).expect("a stop slice"),
+        ..of_r("0x", &slices)
+    }
+}
+
+/// The unstarred windows: lengths at their limits, one tap.
+pub fn limit_windows() -> Vec<(Call, Result<u64, Refused>)> {
+    let step = |state, _| second::step(9, 0x110, state);
+    // 255 steps after the stop is 256 before it
+    let before = (0..255).fold(1, step);
+    vec![
+        // the lowest state that delivers m zeros and then a one in cell 63 has one cell set
+        (all_x(one_tap(), 63), Ok(1)),
+        (all_x(one_tap(), 1), Ok(1 << 62)),
+        // the state has come round
+        (all_x(one_tap(), 64), refused(7, 0)),
+        (all_x(one_tap(), 256), refused(7, 0)),
+        (all_x(one_tap(), 257), refused(3, 0)),
+        (all_x(one_tap(), 0), refused(3, 0)),
+        (all_x(long_period(), 256), Ok(before)),
+        (all_x(long_period(), 257), refused(3, 0)),
+    ]
+}
+
+/// The unstarred sets: numbers of slices at their limits, equal masks, one tap.
+/// The longest window of R with equal masks delivers two zeros; of the one tap, 63.
+pub fn limit_sets() -> Vec<(Call, Result<Vec<u64>, Refused>)> {
+    let round = [vec![1; 32], vec![1 << 31]].concat();
+    vec![
+        (all_x(equal_masks(), 2_048), Ok(vec![6; 1_024])),
+        (all_x(equal_masks(), 2_049), refused(3, 0)),
+        (all_x(one_tap(), 2_048), Ok(round)),
+    ]
+}
+
+/// The starred examples.
+pub fn starred() -> Outcome {
+    let mut state = 1;
+    for next in [2, 5, 3, 7, 6, 4, 1] {
+        state = second::step(R_CELLS as u64, R_TAPS, state);
+        same("R from state 1", state, next)?;
+    }
+    let figure = figure_set();
+    same("figure 2", figure.stop_slice(), Ok(figure.stop))?;
+    for call in starred_in() {
+        same(
+            &format!("the set {call:x?}"),
+            call.stop_slice(),
+            refused(6, 0),
+        )?;
+    }
+    for (call, told) in starred_windows() {
+        same(&format!("the window {call:x?}"), call.window_seed(), told)?;
+    }
+    for (set, told) in [starred_set(), sheet_set()] {
+        same(&format!("the set {set:x?}"), encoded(&set), told)?;
+    }
+    let call = of_r("01", &["xx"]);
+    same("seed 6", call.expand(&[6], &mut [9; 4]), refused(11, 0))?;
+    same("seed 0", call.expand(&[0], &mut [9; 4]), refused(12, 0))?;
+    Ok(18)
 }
 
 const SHEET: &str = "cells=3\ntaps=6\nchains=2\nchain=1\nchain=4\ndepth=2\nslice=10\nslice=x1\nslice=1x\nslice=1x\n";
@@ -138,98 +218,47 @@ pub fn sheet(program: impl Fn(&str, &str) -> Result<String, String>) -> Outcome 
     Ok(5)
 }
 
-/// The unstarred examples: lengths at their limits, a buffer one entry short, one tap, equal masks.
+/// The second program's seeds of a set, where there is space.
+fn encoded(call: &Call) -> Result<Vec<u64>, Refused> {
+    let mut out = vec![9; call.slices];
+    let count = call.encode_set(&mut out)?;
+    out.truncate(count);
+    Ok(out)
+}
+
+/// The unstarred examples.
 pub fn limits() -> Outcome {
-    let all_x = |count: usize| (vec![0u64; count], vec![0u64; count]);
-    // one chain of a register whose period is long: a 64-cell register with taps in cell 63 only shifts its state round
-    let (cells, taps) = (64, 1 << 63);
-    let masks = [1 << 63];
-    let stop = (1, 1);
-    // the lowest state that delivers m zeros and then a one in cell 63 has one cell set
-    let seed = |count: usize| {
-        let (specified, bits) = all_x(count);
-        second::window_seed(cells, taps, &masks, stop.0, stop.1, &specified, &bits)
-    };
-    same("63 slices, one tap", seed(63), Ok(1))?;
-    same("1 slice, one tap", seed(1), Ok(1 << 62))?;
-    same(
-        "64 slices, one tap: the state has come round",
-        seed(64),
-        refused(7, 0),
-    )?;
-    same("a window of 256 slices, one tap", seed(256), refused(7, 0))?;
-    same("a window of 257 slices", seed(257), refused(3, 0))?;
-    same("a window of no slice", seed(0), refused(3, 0))?;
-    // a window of 256 slices with a seed: 9 cells of full period, a chain that reads all of them
-    let long = |count: usize| {
-        let (specified, bits) = all_x(count);
-        second::window_seed(
-            9,
-            0x110,
-            &[1, 2, 4, 8, 16, 32, 64, 128, 256],
-            0x1ff,
-            1,
-            &specified,
-            &bits,
-        )
-    };
-    let found =
-        long(256).map_err(|r| format!("a window of 256 slices is refused by {}", r.number))?;
-    let mut state = found;
-    for _ in 0..256 {
-        state = second::step(9, 0x110, state);
+    let mut count = 0;
+    for (call, told) in limit_windows() {
+        same(&format!("the window {call:x?}"), call.window_seed(), told)?;
+        count += 1;
     }
-    same("a window of 256 slices ends in the stop", state, 1)?;
-    same("257 slices", long(257), refused(3, 0))?;
-    // sets of 2,048 and 2,049 slices of R, equal masks
-    let of = |count: usize, out: &mut [u64]| {
-        let (specified, bits) = all_x(count);
-        second::encode_set(R_CELLS, R_TAPS, &[1, 1], 1, 1, &specified, &bits, out)
-    };
-    let mut out = vec![9; 2048];
-    let count = of(2048, &mut out)
-        .map_err(|r| format!("a set of 2,048 slices is refused by {}", r.number))?;
-    same(
-        "the buffer behind the seeds",
-        out[count..].iter().all(|&x| x == 9),
-        true,
-    )?;
-    same("a set of 2,049 slices", of(2049, &mut out), refused(3, 0))?;
+    for (call, told) in limit_sets() {
+        let what = format!("{} slices for {} cells", call.slices, call.cells);
+        same(&what, encoded(&call), told.clone())?;
+        count += 1;
+        if let Ok(seeds) = told {
+            count += buffers(&call, &seeds)?;
+        }
+    }
+    Ok(count)
+}
+
+/// An accepted set with a longer buffer and with one an entry short, and its list expanded again into such buffers.
+fn buffers(call: &Call, seeds: &[u64]) -> Outcome {
+    let (total, count) = (call.slices, seeds.len());
+    let mut long = vec![9; count + 3];
+    same("a longer buffer", call.encode_set(&mut long), Ok(count))?;
+    same("its entries", &long[..], &[seeds, &[9; 3]].concat()[..])?;
     let mut short = vec![9; count - 1];
-    same(
-        "a buffer one entry short",
-        of(2048, &mut short),
-        refused(9, count as u64),
-    )?;
-    same("that buffer", short, vec![9; count - 1])?;
-    let mut slices = vec![9; 2048];
-    let back = second::expand(
-        R_CELLS,
-        R_TAPS,
-        &[1, 1],
-        1,
-        1,
-        2048,
-        &out[..count],
-        &mut slices,
-    );
-    same("the set of 2,048 slices expanded", back, Ok(2048))?;
-    let mut short = vec![9; 2047];
-    let back = second::expand(
-        R_CELLS,
-        R_TAPS,
-        &[1, 1],
-        1,
-        1,
-        2048,
-        &out[..count],
-        &mut short,
-    );
-    same(
-        "expanded into a buffer one entry short",
-        back,
-        refused(9, 2048),
-    )?;
-    same("that buffer too", short, vec![9; 2047])?;
-    Ok(16)
+    let answer = call.encode_set(&mut short);
+    same("one entry short", answer, refused(9, count))?;
+    same("its entries", short, vec![9; count - 1])?;
+    let answer = call.expand(seeds, &mut vec![9; total]);
+    same("the list expanded", answer, Ok(total))?;
+    let mut short = vec![9; total - 1];
+    let answer = call.expand(seeds, &mut short);
+    same("one slice short", answer, refused(9, total))?;
+    same("its entries", short, vec![9; total - 1])?;
+    Ok(7)
 }

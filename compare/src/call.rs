@@ -16,6 +16,12 @@ pub struct Call {
     pub seeds: Vec<u64>,
 }
 
+/// A refusal as the second program gives it.
+pub fn refused<T>(number: u64, value: usize) -> Result<T, Refused> {
+    let value = value as u64;
+    Err(Refused { number, value })
+}
+
 impl Call {
     pub fn window_seed(&self) -> Result<u64, Refused> {
         let (cells, (positions, values)) = (self.cells as u64, self.stop);

@@ -1,6 +1,6 @@
 // The library's expanding of seed lists against the second program's: the answer, and every entry of the lent buffer.
 
-use crate::call::Call;
+use crate::call::{refused, Call};
 use crate::inputs::{damage_stop, lawful};
 use crate::lent::lend;
 use crate::random::Random;
@@ -153,10 +153,6 @@ fn encoded(random: &mut Random, sizes: (usize, usize, usize), seen: &mut Seen) -
     call.seeds[random.between(0, number - 1)] ^= 1 << random.between(0, call.cells - 1);
     count += compare(random, &call, total, seen)?;
     Ok(count)
-}
-
-fn refused(number: u64, value: u64) -> Result<usize, Refused> {
-    Err(Refused { number, value })
 }
 
 /// Lists at the limits: how many steps before the stop each seed stands, the total, and the answer where there is space.
