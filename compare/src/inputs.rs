@@ -51,11 +51,76 @@ pub fn lawful(
     }
 }
 
+/// A lawful call of one slice for just so many cells and chains: often the last cell alone is tapped, masks are equal, or each has one cell.
+pub fn shaped(random: &mut Random, cells: usize, chains: usize) -> Call {
+    let last = 1 << (cells - 1);
+    let taps = [lawful_taps(random, cells), last][random.one_in(6) as usize];
+    let one_cell = random.one_in(6);
+    let mut masks = Vec::new();
+    for _ in 0..chains {
+        let cell = 1 << random.between(0, cells - 1);
+        masks.push([lawful_mask(random, cells), cell][one_cell as usize]);
+    }
+    if random.one_in(6) {
+        let first = masks[0];
+        masks[..random.between(1, chains)].fill(first);
+    }
+    Call {
+        cells,
+        taps,
+        masks,
+        stop: (1, random.below(2)),
+        ..lawful(random, 1, 1, 1)
+    }
+}
+
+/// The call gets so many slices, each bit specified `percent` times in a hundred.
+pub fn fill(random: &mut Random, call: &mut Call, count: usize, percent: u64) {
+    let slice = |_| lawful_slice(random, call.masks.len(), percent);
+    (call.specified, call.bits) = (0..count).map(slice).unzip();
+}
+
+/// A stop slice of one to five positions.
+pub fn any_stop(random: &mut Random, chains: usize) -> (u64, u64) {
+    let mut positions = 0;
+    for _ in 0..random.between(1, 5) {
+        positions |= 1 << random.between(0, chains - 1);
+    }
+    (positions, random.word() & positions)
+}
+
+/// A call for a wide register with few bits and a stop of few positions: many states fit, and most of them show the stop early.
+pub fn searched(random: &mut Random, most_slices: usize) -> Call {
+    let (cells, chains) = (random.between(40, 64), random.between(2, 20));
+    let mut call = shaped(random, cells, chains);
+    call.stop = any_stop(random, chains);
+    let percent = [0, 2, 5, 10][random.between(0, 3)];
+    let count = random.between(1, most_slices);
+    fill(random, &mut call, count, percent);
+    call
+}
+
 /// Blanks most of the specified bits, so that more windows have a seed.
 pub fn thin(random: &mut Random, call: &mut Call) {
     for (specified, bits) in call.specified.iter_mut().zip(&mut call.bits) {
         *specified &= random.word() & random.word();
         *bits &= *specified;
+    }
+}
+
+/// Turns one bit of one slice, if that slice has any.
+pub fn turn(random: &mut Random, call: &mut Call) {
+    let count = call.specified.len();
+    if count == 0 {
+        return;
+    }
+    let at = random.between(0, count - 1);
+    let weights = (0..64).map(|place| 1 << place);
+    let held: Vec<u64> = weights
+        .filter(|weight| call.specified[at] & weight != 0)
+        .collect();
+    if !held.is_empty() {
+        call.bits[at] ^= held[random.between(0, held.len() - 1)];
     }
 }
 
@@ -189,5 +254,24 @@ pub fn damage_slice(random: &mut Random, chains: usize, specified: &mut [u64], b
             specified[at] &= !inside;
             bits[at] |= inside;
         }
+    }
+}
+
+/// Damages one part of a window or set: a number beyond 32 bits, its stop slice, a slice, one of its lists, or any part of a call.
+pub fn damage_set(random: &mut Random, call: &mut Call) {
+    let count = [0, 2_049, call.specified.len() + 1][random.between(0, 2)];
+    match random.below(10) {
+        0 => call.cells |= 1 << 32,
+        1 => call.depth |= 1 << 32,
+        2 => damage_stop(random, call),
+        3 => damage_slice(
+            random,
+            call.masks.len(),
+            &mut call.specified,
+            &mut call.bits,
+        ),
+        4 => call.specified.resize(count, 0),
+        5 => call.bits.resize(count, 0),
+        _ => damage(random, call),
     }
 }

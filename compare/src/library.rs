@@ -21,6 +21,15 @@ pub struct StopAnswer {
     bits: u64,
 }
 
+/// The seed of a window, with number and value 0; or a refusal's number and value, with seed 0.
+#[repr(C)]
+#[derive(Debug, PartialEq)]
+pub struct SeedAnswer {
+    number: usize,
+    value: usize,
+    seed: u64,
+}
+
 /// The second program's answer as the library gives it.
 impl From<Result<usize, Refused>> for Answer {
     fn from(told: Result<usize, Refused>) -> Answer {
@@ -42,6 +51,19 @@ impl From<Result<(u64, u64), Refused>> for StopAnswer {
             value,
             specified,
             bits,
+        }
+    }
+}
+
+/// The second program's answer as the library gives it.
+impl From<Result<u64, Refused>> for SeedAnswer {
+    fn from(told: Result<u64, Refused>) -> SeedAnswer {
+        let seed = told.unwrap_or(0);
+        let Answer { number, value } = told.map(|_| 0).into();
+        SeedAnswer {
+            number,
+            value,
+            seed,
         }
     }
 }
@@ -131,6 +153,18 @@ extern "C" {
         out: *mut u64,
         out_len: usize,
     ) -> Answer;
+    fn seeds_window(
+        cells: usize,
+        taps: u64,
+        masks: *const u64,
+        chains: usize,
+        stop_specified: u64,
+        stop_bits: u64,
+        specified: *const u64,
+        specified_len: usize,
+        bits: *const u64,
+        bits_len: usize,
+    ) -> SeedAnswer;
 }
 
 pub fn step(cells: usize, taps: u64, state: u64) -> u64 {
@@ -268,6 +302,24 @@ impl Call {
                 self.seeds.len(),
                 out.as_mut_ptr(),
                 out.len(),
+            )
+        }
+    }
+
+    /// The seed of the call's slices as one window.
+    pub fn seed_of_window(&self) -> SeedAnswer {
+        unsafe {
+            seeds_window(
+                self.cells,
+                self.taps,
+                self.masks.as_ptr(),
+                self.masks.len(),
+                self.stop.0,
+                self.stop.1,
+                self.specified.as_ptr(),
+                self.specified.len(),
+                self.bits.as_ptr(),
+                self.bits.len(),
             )
         }
     }

@@ -9,6 +9,7 @@ mod inputs;
 mod leaves;
 mod lent;
 mod library;
+mod notes;
 mod random;
 mod report;
 mod runs;
@@ -16,6 +17,7 @@ mod sample;
 mod seen;
 mod small;
 mod stops;
+mod windows;
 
 use report::Report;
 use std::io::Write;
@@ -62,6 +64,18 @@ fn main() -> ExitCode {
         }
     }
     let mut report = Report::new();
+    examples(&mut report);
+    library_leaves(&mut report);
+    library_encodes(&mut report);
+    if report.end() {
+        ExitCode::SUCCESS
+    } else {
+        ExitCode::FAILURE
+    }
+}
+
+/// The papers' examples, and the second program against brute force.
+fn examples(report: &mut Report) {
     report.case("bench examples, starred", bench::starred());
     report.case(
         "bench examples, the sheet and its list",
@@ -74,6 +88,10 @@ fn main() -> ExitCode {
     report.case("small sets against brute force", small::sets());
     report.case("small windows against brute force", small::windows());
     report.case("small sets encoded and expanded", small::round_trips());
+}
+
+/// The library's leaves, checks, stop slice and expanding.
+fn library_leaves(report: &mut Report) {
     report.case("library: step", leaves::steps());
     report.case("library: slice", leaves::slices());
     report.case("library: agreeing and showing", leaves::agreeing());
@@ -82,9 +100,14 @@ fn main() -> ExitCode {
     report.case("library: counts of slices in", stops::counts());
     report.case("library: stop slice", stops::answers());
     report.case("library: expanding", expands::answers());
-    if report.end() {
-        ExitCode::SUCCESS
-    } else {
-        ExitCode::FAILURE
-    }
+}
+
+/// The library's seeds of windows.
+fn library_encodes(report: &mut Report) {
+    report.case("library: windows of the bench", windows::examples());
+    report.case(
+        "library: windows against brute force",
+        windows::against_brute_force(),
+    );
+    report.case("library: windows", windows::answers());
 }

@@ -111,3 +111,16 @@ pub fn walk(random: &mut Random, cells: usize) -> (Call, Vec<u64>) {
         }
     }
 }
+
+/// The call's test slices become those that its seeds deliver, each bit specified `percent` times in a hundred.
+pub fn deliver(random: &mut Random, call: &mut Call, percent: u64) {
+    let mut slices = vec![0; call.slices];
+    let written = call.expand(&call.seeds, &mut slices).unwrap_or(0);
+    call.specified.clear();
+    call.bits.clear();
+    for slice in &slices[..written] {
+        let specified = random.sparse(call.masks.len(), percent);
+        call.specified.push(specified);
+        call.bits.push(slice & specified);
+    }
+}
