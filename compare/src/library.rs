@@ -30,6 +30,16 @@ pub struct SeedAnswer {
     seed: u64,
 }
 
+/// Number 0, the seeds written and the stop slice; or a refusal's number and value, with a stop slice of 0 and 0.
+#[repr(C)]
+#[derive(Debug, PartialEq)]
+pub struct CubesAnswer {
+    number: usize,
+    value: usize,
+    specified: u64,
+    bits: u64,
+}
+
 /// The second program's answer as the library gives it.
 impl From<Result<usize, Refused>> for Answer {
     fn from(told: Result<usize, Refused>) -> Answer {
@@ -64,6 +74,20 @@ impl From<Result<u64, Refused>> for SeedAnswer {
             number,
             value,
             seed,
+        }
+    }
+}
+
+/// The second program's answer as the library gives it.
+impl From<Result<(u64, u64, usize), Refused>> for CubesAnswer {
+    fn from(told: Result<(u64, u64, usize), Refused>) -> CubesAnswer {
+        let (specified, bits, _) = told.unwrap_or((0, 0, 0));
+        let Answer { number, value } = told.map(|(_, _, count)| count).into();
+        CubesAnswer {
+            number,
+            value,
+            specified,
+            bits,
         }
     }
 }
@@ -165,6 +189,33 @@ extern "C" {
         bits: *const u64,
         bits_len: usize,
     ) -> SeedAnswer;
+    fn seeds_encode_set(
+        cells: usize,
+        taps: u64,
+        masks: *const u64,
+        chains: usize,
+        stop_specified: u64,
+        stop_bits: u64,
+        specified: *const u64,
+        specified_len: usize,
+        bits: *const u64,
+        bits_len: usize,
+        out: *mut u64,
+        out_len: usize,
+    ) -> Answer;
+    fn seeds_encode_cubes(
+        cells: usize,
+        taps: u64,
+        masks: *const u64,
+        chains: usize,
+        depth: usize,
+        specified: *const u64,
+        specified_len: usize,
+        bits: *const u64,
+        bits_len: usize,
+        out: *mut u64,
+        out_len: usize,
+    ) -> CubesAnswer;
 }
 
 pub fn step(cells: usize, taps: u64, state: u64) -> u64 {
@@ -320,6 +371,45 @@ impl Call {
                 self.specified.len(),
                 self.bits.as_ptr(),
                 self.bits.len(),
+            )
+        }
+    }
+
+    /// The encoding of the call's slices with its stop slice.
+    pub fn encoded_set(&self, out: &mut [u64]) -> Answer {
+        unsafe {
+            seeds_encode_set(
+                self.cells,
+                self.taps,
+                self.masks.as_ptr(),
+                self.masks.len(),
+                self.stop.0,
+                self.stop.1,
+                self.specified.as_ptr(),
+                self.specified.len(),
+                self.bits.as_ptr(),
+                self.bits.len(),
+                out.as_mut_ptr(),
+                out.len(),
+            )
+        }
+    }
+
+    /// The encoding of the call's slices as cubes, with the stop slice by the steps.
+    pub fn encoded_cubes(&self, out: &mut [u64]) -> CubesAnswer {
+        unsafe {
+            seeds_encode_cubes(
+                self.cells,
+                self.taps,
+                self.masks.as_ptr(),
+                self.masks.len(),
+                self.depth,
+                self.specified.as_ptr(),
+                self.specified.len(),
+                self.bits.as_ptr(),
+                self.bits.len(),
+                out.as_mut_ptr(),
+                out.len(),
             )
         }
     }

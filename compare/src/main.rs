@@ -3,12 +3,14 @@
 
 mod bench;
 mod call;
+mod encodes;
 mod expands;
 mod figure;
 mod inputs;
 mod leaves;
 mod lent;
 mod library;
+mod limits;
 mod notes;
 mod random;
 mod report;
@@ -17,6 +19,7 @@ mod sample;
 mod seen;
 mod small;
 mod stops;
+mod wide;
 mod windows;
 
 use report::Report;
@@ -102,7 +105,7 @@ fn library_leaves(report: &mut Report) {
     report.case("library: expanding", expands::answers());
 }
 
-/// The library's seeds of windows.
+/// The library's seeds of windows and encoding of sets.
 fn library_encodes(report: &mut Report) {
     report.case("library: windows of the bench", windows::examples());
     report.case(
@@ -110,4 +113,12 @@ fn library_encodes(report: &mut Report) {
         windows::against_brute_force(),
     );
     report.case("library: windows", windows::answers());
+    report.case("library: sets of the bench", encodes::examples());
+    report.case(
+        "library: sets against brute force",
+        encodes::against_brute_force(),
+    );
+    report.case("library: damaged sets", encodes::damaged());
+    report.case("library: sets at the limits", limits::answers());
+    report.case("library: sets of 64 cells", wide::answers());
 }

@@ -1,13 +1,15 @@
-// What a window is, and which causes hold for it, as names that a case can require.
+// What a window or set is, and which causes hold for it, as names that a case can require.
 
 use crate::call::Call;
 use crate::seen::Seen;
-use second::{Refused, LONGEST_WINDOW};
+use second::{Refused, LONGEST_WINDOW, MOST_SLICES};
 
 /// What a call is for.
-#[derive(Clone, Copy)]
+#[derive(Clone, Copy, PartialEq)]
 pub enum Kind {
     Window,
+    Set,
+    Cubes,
 }
 
 /// Cause 3 by itself.
@@ -15,6 +17,12 @@ fn out_of_range(kind: Kind, call: &Call) -> bool {
     let count = call.specified.len();
     match kind {
         Kind::Window => !(1..=LONGEST_WINDOW).contains(&count),
+        Kind::Set => !(1..=MOST_SLICES).contains(&count),
+        Kind::Cubes => {
+            !(1..=LONGEST_WINDOW).contains(&call.depth)
+                || !(1..=MOST_SLICES).contains(&count)
+                || !count.is_multiple_of(call.depth)
+        }
     }
 }
 
@@ -27,7 +35,7 @@ pub fn holding(kind: Kind, call: &Call) -> Vec<u64> {
         second::check_chains(cells, &call.masks).is_err(),
         out_of_range(kind, call),
         second::check_slices(chains, &call.specified, &call.bits).is_err(),
-        second::check_stop(chains, positions, values).is_err(),
+        kind != Kind::Cubes && second::check_stop(chains, positions, values).is_err(),
     ];
     (1..=5).filter(|&cause| holds[cause as usize - 1]).collect()
 }
