@@ -34,10 +34,10 @@ pub struct SeedAnswer {
 #[repr(C)]
 #[derive(Debug, PartialEq)]
 pub struct CubesAnswer {
-    number: usize,
-    value: usize,
-    specified: u64,
-    bits: u64,
+    pub number: usize,
+    pub value: usize,
+    pub specified: u64,
+    pub bits: u64,
 }
 
 /// The second program's answer as the library gives it.

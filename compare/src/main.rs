@@ -1,11 +1,13 @@
 // The test program: the proved library, document 01's bench examples and document 004's figure 2, against the second program.
-// Prints a line for each case and ends with `N passed, M failed`.
+// Prints a line for each case and ends with `N passed, M failed`. `compare figures SECONDS` prints a table of times instead.
 
 mod bench;
 mod call;
+mod clock;
 mod encodes;
 mod expands;
 mod figure;
+mod figures;
 mod inputs;
 mod leaves;
 mod lent;
@@ -61,10 +63,14 @@ fn sample(root: &str, file: &str) -> ExitCode {
 
 fn main() -> ExitCode {
     let words: Vec<String> = std::env::args().skip(1).collect();
-    if let [word, root, file] = &words[..] {
-        if word == "sample" {
-            return sample(root, file);
+    let words: Vec<&str> = words.iter().map(String::as_str).collect();
+    match words[..] {
+        ["sample", root, file] => return sample(root, file),
+        ["figures", limit] => return figures::all(limit),
+        ["figures-one", chains, percent, program, limit] => {
+            return figures::one(chains, percent, program, limit)
         }
+        _ => {}
     }
     let mut report = Report::new();
     examples(&mut report);
