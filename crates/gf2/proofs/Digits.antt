@@ -9,6 +9,7 @@
 --     beyond-no, no-beyond       what "a bit at or above n" says
 --     beyond-quotient            a bit at or above n is what is left of the quotient by 2 ^ n
 --     beyond-wide                a word has no bit at or above a wider width
+--     one-shifted                a single bit in a word of 64
 -- Assumes nothing.
 use mathlib.Core.Path.{_≡_, refl, sym, ap, _∙_, subst}
 use mathlib.Core.Bool.{Bool, true, false}
@@ -129,3 +130,8 @@ beyond-quotient n x = go (leb (2 ^ n) x) refl
 
 pub beyond-wide : (w n x : ℕ) → w ≤ n → x < 2 ^ w → beyond n x ≡ false
 beyond-wide w n x h l = beyond-no n x (let p : 2 ^ w ≤ 2 ^ n = pow-mono h in omega arith)
+
+pub one-shifted : (k : ℕ) → k < 64 → 1 * 2 ^ k % 2 ^ 64 ≡ 2 ^ k
+one-shifted k h =
+    let p : 2 ^ k ≤ 2 ^ 63 = pow-mono {i = k} {j = 63} (omega arith) in
+    omega arith

@@ -4,7 +4,7 @@
 --     pull-law, pulls-law        what a mask reads after the steps is what the pulled-back mask reads before them
 --     step-zero                  the state 0 steps to itself
 --     pull-below                 a mask pulled back stays below 2 ^ cells
---     step-fits, step-narrow, step-wide, one-shifted     the step on a 64-bit word, of fewer than 64 cells and of 64
+--     step-fits, step-narrow, step-wide     the step on a 64-bit word, of fewer than 64 cells and of 64
 -- Assumes nothing.
 use mathlib.Core.Path.{_≡_, refl, sym, ap, ap₂, _∙_}
 use Prim.Native.Nat.{ℕ, zero, suc, _+_, _-_, _*_, _/_, _%_, _^_, _≤_, _<_, min}
@@ -104,8 +104,3 @@ step-narrow r s h =
     let j : ℕ = 64 - n in
     let w : 64 ≡ j + n = omega arith in
     ap (λ (x : ℕ). x % 2 ^ n) (word s (r .taps) ∙ ap (λ (k : ℕ). (s * 2 + odd s (r .taps)) % 2 ^ k) w) ∙ mod-mod-pow (s * 2 + odd s (r .taps)) j n ∙ ap (λ (k : ℕ). (s * 2 + odd s (r .taps)) % 2 ^ k) (sym e)
-
-pub one-shifted : (k : ℕ) → k < 64 → 1 * 2 ^ k % 2 ^ 64 ≡ 2 ^ k
-one-shifted k h =
-    let p : 2 ^ k ≤ 2 ^ 63 = pow-mono {i = k} {j = 63} (omega arith) in
-    omega arith

@@ -1,0 +1,6 @@
+-- The laws of spaces.
+pub mod Members
+pub mod AllStates
+pub mod Pivot
+pub mod Taking
+pub mod Restricting

@@ -1,0 +1,3 @@
+-- Spaces of states, and a space restricted by an equation.
+pub mod Space
+pub mod Code
