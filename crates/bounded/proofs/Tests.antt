@@ -1,6 +1,7 @@
 -- Laws of tests that are Bools.
 --     clash          a test is not both true and false
 --     lt-or-le       two numbers compare
+--     eq-or-not      two numbers are one, or not
 --     both, and-yes     a conjunction is true, and its parts are
 --     alike          two tests, each true where the other is, are one
 --     neither        a disjunction is false, and its parts are
@@ -11,8 +12,8 @@ use mathlib.Core.Logic.{_⊎_, inl, inr}
 use mathlib.Core.Bool.{Bool, true, false, _&&_, _||_}
 use Prim.Native.Nat.{ℕ, _≤_, _<_}
 use native.Mathlib.Omega.{arith}
-use lib.Dec.{ltb, leb}
-use borrow.Author.Tests.{ltb-true, ltb-false, leb-true, lt-leb}
+use lib.Dec.{ltb, leb, eqb}
+use borrow.Author.Tests.{ltb-true, ltb-false, leb-true, lt-leb, eqb-true, eqb-false}
 use Rattle.bounded.specs.Bounded.{within}
 
 pub clash : (b : Bool) → b ≡ true → b ≡ false → ⊥
@@ -24,6 +25,13 @@ lt-or-le a b = go (ltb a b) refl
     go : (t : Bool) → ltb a b ≡ t → (a < b) ⊎ (b ≤ a)
     go true e = inl (ltb-true a b e)
     go false e = inr (ltb-false a b e)
+
+pub eq-or-not : (a b : ℕ) → (a ≡ b) ⊎ (a ≡ b → ⊥)
+eq-or-not a b = go (eqb a b) refl
+  where
+    go : (t : Bool) → eqb a b ≡ t → (a ≡ b) ⊎ (a ≡ b → ⊥)
+    go true e = inl (eqb-true a b e)
+    go false e = inr (eqb-false a b e)
 
 pub both : (a b : Bool) → a && b ≡ true → (a ≡ true) × (b ≡ true)
 both true b e = (refl, e)

@@ -3,6 +3,8 @@
 --     place-within, place-none, place-some       where it is the number of vectors, there is no pivot; otherwise the pivot stands there
 --     close-next, close-end      the vectors after it moved down, one by one: what is left to write, written from here, is the whole
 --     closed                     so the vectors that are left come first
+--     place-lt, taken-none, taken-some     the answer of `take_out`
+--     taken-left                 the vectors that are left, read off the buffer
 -- Assumes nothing.
 use mathlib.Core.Path.{_≡_, refl, sym, ap, _∙_}
 use mathlib.Core.Logic.{⊎-elim}
@@ -12,11 +14,12 @@ use native.Mathlib.Numerals.{add-one}
 use native.Mathlib.Omega.{arith}
 use borrow.Author.Tests.{eq-eqb, ne-eqb}
 use lib.ListN.{take-append-drop, getD, length, take, drop, set, length-append, length-drop, length-map, drop-of-length-le}
-use lib.Seq.{take-all, sets, sets-eq, drop-cons, drop-set-lt, drop-length, getD-take, length-take-le, take-take, take-set-lt}
+use lib.Seq.{take-all, take-at, sets, sets-eq, drop-cons, drop-set-lt, drop-length, getD-take, length-take-le, take-take, take-set-lt}
 use Rattle.bounded.proofs.Tests.{lt-or-le}
 use Rattle.gf2.specs.Words.{odd}
 use Rattle.space.specs.Space.{added, pivot, without}
 use Rattle.space.specs.Code.{firstOdd}
+use Rattle.space.specs.declared.Taken.{Taken}
 use Rattle.space.proofs.Pivot.{parity, pivot-even, pivot-odd, without-even, without-odd}
 
 module _ (mask : ℕ) where
@@ -166,3 +169,8 @@ module _ (mask f : ℕ) (vs : List ℕ) (n : ℕ) (count : n ≡ min f (length v
           ∙ length-append (take i (take n vs)) (map g (drop (suc i) (take n vs)))
           ∙ rw (length-map (drop (suc i) (take n vs)) g, length-drop (suc i) (take n vs), length-take-le i (take n vs) (omega arith), len) (omega arith) in
       (sym p, rw d (sym m), rw d (rw k at c))
+
+-- the vectors that are left, read off the buffer
+pub taken-left : (mask : ℕ) (vs out rest : List ℕ) (t : Taken) → t ≡ record { pivot = pivot mask vs; left = length (without mask vs) }
+    → out ≡ without mask vs ++ rest → take (t .left) out ≡ without mask vs
+taken-left mask vs out rest t e q = rw (e, q) (take-at (without mask vs) rest (length (without mask vs)) refl)

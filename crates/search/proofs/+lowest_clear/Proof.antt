@@ -1,0 +1,368 @@
+use Rattle.search.specs.Search.{lower, lowestClear}
+use Rattle.space.proofs.Taking.{taken-left}
+use borrow.Author.Needs.{needs}
+use native.Mathlib.Omega.{arith}
+use Prim.Native.Nat.{_-_, _+_, _*_, _≤_}
+use mathlib.Core.Path.{_≡_, refl, sym, _∙_, subst, ap}
+use mathlib.Core.Logic.{⊎-elim}
+use lib.ListN.{getD, length, take}
+use Rattle.space.specs.Space.{pivot, without}
+use Rattle.space.specs.declared.Taken.{Taken}
+use Rattle.search.proofs.Reading.{row-fits}
+use Rattle.search.proofs.Branching.{first-none, first-some, finds-lowest-clear, lowest-clear-finds, finds-pruned, finds-lowest, Branched, branched-start, branched-same, branched-child, child-rising, child-shorter, branched-end}
+use Prim.Native.Nat.{ℕ, _<_}
+use borrow.Fn.Kinds.{In}
+use borrow.Fn.PlainCycle.{Measures, is, falls, and}
+use Rattle.search.proofs.lowest_clear.Reads as lowest-clear
+use Rattle.search.proofs.lowest_clear.Kinds as lowest-clear-kinds
+use Rattle.search.proofs.+lowest_clear.Lts-lowest_clear as lowest-clear-lts
+use Rattle.search.proofs.first_shown.Reads as first-shown-reads
+use Rattle.search.proofs.reached.Reads as reached-reads
+use Rattle.space.proofs.take_out.Reads as take-out-reads
+use Rattle.search.proofs.+lowest_clear.{statement}
+use Rattle.search.proofs.+lowest_clear.Tie.{close}
+
+abbrev μ-lowest-clear : Measures 1 lowest-clear-kinds.ps ℕ
+μ-lowest-clear κs a = length (take (a .1 .1 .1 .1 .1 .0) (a .1 .1 .1 .1 .0))
+
+abbrev lowest-clear-at : ℕ → In 1 lowest-clear-kinds.ps
+lowest-clear-at t =
+    and 1 lowest-clear-kinds.ps (is 1 lowest-clear-kinds.ps μ-lowest-clear t) lowest-clear.Pre
+
+abbrev lowest-clear-below : ℕ → In 1 lowest-clear-kinds.ps
+lowest-clear-below t =
+    and
+    1
+    lowest-clear-kinds.ps
+    (falls 1 lowest-clear-kinds.ps _<_ μ-lowest-clear t)
+    lowest-clear.Pre
+
+abbrev lowest-clear-Inv-loop : lowest-clear-lts.InvT-loop
+lowest-clear-Inv-loop pattern table rows lowest free row columns first rest₀ left₀ found₀ column₀ rest left found column =
+    (length rest ≡ 64) × Branched pattern table rows lowest (take left₀ rest₀) found₀ row (take left rest) found column
+
+abbrev lowest-clear-μ-loop : lowest-clear-lts.MeasureT-loop
+lowest-clear-μ-loop pattern table rows lowest free row columns first rest₀ left₀ found₀ column₀ rest left found column =
+    columns - column
+
+-- src/lib.rt:81:8
+lowest-clear-reached-requires : (t : ℕ) → lowest-clear-lts.Need-reached-requires (
+  reached-reads.Asked,
+  reached-reads.Learnt,
+  first-shown-reads.Asked,
+  first-shown-reads.Learnt,
+  take-out-reads.Asked,
+  take-out-reads.Learnt,
+  lowest-clear-below t,
+  lowest-clear.Post,
+) (lowest-clear-at t) lowest-clear.Post lowest-clear-Inv-loop lowest-clear-μ-loop
+lowest-clear-reached-requires t c κs = search needs
+
+-- src/lib.rt:82:9
+lowest-clear-returns : (t : ℕ) → lowest-clear-lts.Need-returns (
+  reached-reads.Asked,
+  reached-reads.Learnt,
+  first-shown-reads.Asked,
+  first-shown-reads.Learnt,
+  take-out-reads.Asked,
+  take-out-reads.Learnt,
+  lowest-clear-below t,
+  lowest-clear.Post,
+) (lowest-clear-at t) lowest-clear.Post lowest-clear-Inv-loop lowest-clear-μ-loop
+lowest-clear-returns t c =
+    let s = c .before .before .before in
+    let a = s .args in
+    finds-lowest-clear (a .pattern) (a .table .now) (a .rows) (a .lowest) (take (a .free) (a .vectors)) (a .before) (a .before)
+    (finds-pruned (a .pattern) (a .table .now) (a .rows) (a .lowest) (take (a .free) (a .vectors)) (a .before) (s .pre .1 .0) (sym (c .before .reached .ensures) ∙ c .if1 .taken))
+
+-- src/lib.rt:84:9
+lowest-clear-first-shown-requires : (t : ℕ) → lowest-clear-lts.Need-first-shown-requires (
+  reached-reads.Asked,
+  reached-reads.Learnt,
+  first-shown-reads.Asked,
+  first-shown-reads.Learnt,
+  take-out-reads.Asked,
+  take-out-reads.Learnt,
+  lowest-clear-below t,
+  lowest-clear.Post,
+) (lowest-clear-at t) lowest-clear.Post lowest-clear-Inv-loop lowest-clear-μ-loop
+lowest-clear-first-shown-requires t c κs = search needs
+
+-- src/lib.rt:86:9
+lowest-clear-returns-2 : (t : ℕ) → lowest-clear-lts.Need-returns-2 (
+  reached-reads.Asked,
+  reached-reads.Learnt,
+  first-shown-reads.Asked,
+  first-shown-reads.Learnt,
+  take-out-reads.Asked,
+  take-out-reads.Learnt,
+  lowest-clear-below t,
+  lowest-clear.Post,
+) (lowest-clear-at t) lowest-clear.Post lowest-clear-Inv-loop lowest-clear-μ-loop
+lowest-clear-returns-2 t c =
+    let s = c .before .before .before .before .before in
+    let a = s .args in
+    finds-lowest-clear (a .pattern) (a .table .now) (a .rows) (a .lowest) (take (a .free) (a .vectors)) (a .before) _
+    (finds-lowest (a .pattern) (a .table .now) (a .rows) (a .lowest) (take (a .free) (a .vectors)) (a .before) (s .pre .1 .0) (omega arith)
+    (sym (c .before .before .before .reached .ensures) ∙ c .before .before .if1 .left)
+    (first-none (a .pattern) (a .table .now) (a .rows) (a .lowest) (c .before .first-shown .result) (c .before .first-shown .ensures) (c .if2 .taken)))
+
+-- src/lib.rt:89:17
+lowest-clear-mul-first : (t : ℕ) → lowest-clear-lts.Need-mul-first (
+  reached-reads.Asked,
+  reached-reads.Learnt,
+  first-shown-reads.Asked,
+  first-shown-reads.Learnt,
+  take-out-reads.Asked,
+  take-out-reads.Learnt,
+  lowest-clear-below t,
+  lowest-clear.Post,
+) (lowest-clear-at t) lowest-clear.Post lowest-clear-Inv-loop lowest-clear-μ-loop
+lowest-clear-mul-first t c =
+    let s = c .before .before .before .before .before in
+    let a = s .args in
+    let r = c .before .first-shown in
+    let f = first-some (a .pattern) (a .table .now) (a .rows) (a .lowest) (r .result) (r .ensures) (c .if2 .left) in
+    let g = row-fits (r .result) (a .rows) (a .pattern .columns) (length (a .table .now)) (f .0) (s .pre .1 .1) in
+    search needs
+
+-- src/lib.rt:94:5
+lowest-clear-loop-holds : (t : ℕ) → lowest-clear-lts.Need-loop-holds (
+  reached-reads.Asked,
+  reached-reads.Learnt,
+  first-shown-reads.Asked,
+  first-shown-reads.Learnt,
+  take-out-reads.Asked,
+  take-out-reads.Learnt,
+  lowest-clear-below t,
+  lowest-clear.Post,
+) (lowest-clear-at t) lowest-clear.Post lowest-clear-Inv-loop lowest-clear-μ-loop
+lowest-clear-loop-holds t c =
+    let s = c .before .before .before .before .before in
+    let a = s .args in
+    (search needs, branched-start (a .pattern) (a .table .now) (a .rows) (a .lowest) (take (a .free) (a .vectors)) (a .before) (c .before .first-shown .result) (s .pre .1 .0))
+
+-- src/lib.rt:95:37
+lowest-clear-slice-aggregate-take-out : (t : ℕ) → lowest-clear-lts.Need-slice-aggregate-take-out (
+  reached-reads.Asked,
+  reached-reads.Learnt,
+  first-shown-reads.Asked,
+  first-shown-reads.Learnt,
+  take-out-reads.Asked,
+  take-out-reads.Learnt,
+  lowest-clear-below t,
+  lowest-clear.Post,
+) (lowest-clear-at t) lowest-clear.Post lowest-clear-Inv-loop lowest-clear-μ-loop
+lowest-clear-slice-aggregate-take-out t c = search needs
+
+-- src/lib.rt:95:60
+lowest-clear-add-take-out : (t : ℕ) → lowest-clear-lts.Need-add-take-out (
+  reached-reads.Asked,
+  reached-reads.Learnt,
+  first-shown-reads.Asked,
+  first-shown-reads.Learnt,
+  take-out-reads.Asked,
+  take-out-reads.Learnt,
+  lowest-clear-below t,
+  lowest-clear.Post,
+) (lowest-clear-at t) lowest-clear.Post lowest-clear-Inv-loop lowest-clear-μ-loop
+lowest-clear-add-take-out t c =
+    let i = c .before .before .before in
+    let s = i .before .before .before .before .before in
+    let a = s .args in
+    let r = i .before .first-shown in
+    let f = first-some (a .pattern) (a .table .now) (a .rows) (a .lowest) (r .result) (r .ensures) (i .if2 .left) in
+    let g = row-fits (r .result) (a .rows) (a .pattern .columns) (length (a .table .now)) (f .0) (s .pre .1 .1) in
+    search needs
+
+-- src/lib.rt:95:54
+lowest-clear-mul-take-out : (t : ℕ) → lowest-clear-lts.Need-mul-take-out (
+  reached-reads.Asked,
+  reached-reads.Learnt,
+  first-shown-reads.Asked,
+  first-shown-reads.Learnt,
+  take-out-reads.Asked,
+  take-out-reads.Learnt,
+  lowest-clear-below t,
+  lowest-clear.Post,
+) (lowest-clear-at t) lowest-clear.Post lowest-clear-Inv-loop lowest-clear-μ-loop
+lowest-clear-mul-take-out t c =
+    let i = c .before .before .before in
+    let s = i .before .before .before .before .before in
+    let a = s .args in
+    let r = i .before .first-shown in
+    let f = first-some (a .pattern) (a .table .now) (a .rows) (a .lowest) (r .result) (r .ensures) (i .if2 .left) in
+    let g = row-fits (r .result) (a .rows) (a .pattern .columns) (length (a .table .now)) (f .0) (s .pre .1 .1) in
+    search needs
+
+-- src/lib.rt:95:54
+lowest-clear-shared-slice-read-take-out :
+    (t : ℕ) → lowest-clear-lts.Need-shared-slice-read-take-out (
+      reached-reads.Asked,
+      reached-reads.Learnt,
+      first-shown-reads.Asked,
+      first-shown-reads.Learnt,
+      take-out-reads.Asked,
+      take-out-reads.Learnt,
+      lowest-clear-below t,
+      lowest-clear.Post,
+    ) (lowest-clear-at t) lowest-clear.Post lowest-clear-Inv-loop lowest-clear-μ-loop
+lowest-clear-shared-slice-read-take-out t c =
+    let i = c .before .before .before .before in
+    let s = i .before .before .before .before .before in
+    let a = s .args in
+    let r = i .before .first-shown in
+    let f = first-some (a .pattern) (a .table .now) (a .rows) (a .lowest) (r .result) (r .ensures) (i .if2 .left) in
+    let g = row-fits (r .result) (a .rows) (a .pattern .columns) (length (a .table .now)) (f .0) (s .pre .1 .1) in
+    search needs
+
+-- src/lib.rt:95:13
+lowest-clear-take-out-requires : (t : ℕ) → lowest-clear-lts.Need-take-out-requires (
+  reached-reads.Asked,
+  reached-reads.Learnt,
+  first-shown-reads.Asked,
+  first-shown-reads.Learnt,
+  take-out-reads.Asked,
+  take-out-reads.Learnt,
+  lowest-clear-below t,
+  lowest-clear.Post,
+) (lowest-clear-at t) lowest-clear.Post lowest-clear-Inv-loop lowest-clear-μ-loop
+lowest-clear-take-out-requires t c κs = search needs
+
+-- src/lib.rt:98:13
+lowest-clear-lowest-clear-requires : (t : ℕ) → lowest-clear-lts.Need-lowest-clear-requires (
+  reached-reads.Asked,
+  reached-reads.Learnt,
+  first-shown-reads.Asked,
+  first-shown-reads.Learnt,
+  take-out-reads.Asked,
+  take-out-reads.Learnt,
+  lowest-clear-below t,
+  lowest-clear.Post,
+) (lowest-clear-at t) lowest-clear.Post lowest-clear-Inv-loop lowest-clear-μ-loop
+lowest-clear-lowest-clear-requires t c κs =
+    let l = c .before .before .before .before .before .before .before .before .loop in
+    let i = c .before .before .before .before .before .before .before .before .before in
+    let s = i .before .before .before .before .before in
+    let a = s .args in
+    let r = i .before .first-shown in
+    let o = c .before .before .before .before .take-out in
+    let mask = getD (a .table .now) (r .result * a .pattern .columns + l .column) 0 in
+    let e = ap (λ (u : Taken). u .pivot) (o .ensures .0) in
+    let n : pivot mask (take (l .left) (l .rest)) ≡ 0 → ⊥ = λ z. c .before .if3 .taken (e ∙ z) in
+    let w = taken-left mask (take (l .left) (l .rest)) (o .last .0) _ (o .result) (o .ensures .0) (o .ensures .1) in
+    let lt = c .before .before .before .before .before .before .before .loop-test .taken in
+    (
+      omega (arith, ap length w, s .pre .0, child-shorter (a .pattern) (a .table .now) (a .rows) (a .lowest) (take (a .free) (a .vectors)) (a .before) (r .result) (take (l .left) (l .rest)) (l .found) (l .found) (l .column) lt n (l .inv .1)),
+      (rw (w, e) (child-rising (a .pattern) (a .table .now) (a .rows) (a .lowest) (take (a .free) (a .vectors)) (a .before) (r .result) (take (l .left) (l .rest)) (l .found) (l .found) (l .column) lt n (l .inv .1)), s .pre .1 .1),
+    )
+
+-- src/lib.rt:108:9
+lowest-clear-add-column : (t : ℕ) → lowest-clear-lts.Need-add-column (
+  reached-reads.Asked,
+  reached-reads.Learnt,
+  first-shown-reads.Asked,
+  first-shown-reads.Learnt,
+  take-out-reads.Asked,
+  take-out-reads.Learnt,
+  lowest-clear-below t,
+  lowest-clear.Post,
+) (lowest-clear-at t) lowest-clear.Post lowest-clear-Inv-loop lowest-clear-μ-loop
+lowest-clear-add-column t c = search needs
+
+-- src/lib.rt:94:5
+lowest-clear-loop-less : (t : ℕ) → lowest-clear-lts.Need-loop-less (
+  reached-reads.Asked,
+  reached-reads.Learnt,
+  first-shown-reads.Asked,
+  first-shown-reads.Learnt,
+  take-out-reads.Asked,
+  take-out-reads.Learnt,
+  lowest-clear-below t,
+  lowest-clear.Post,
+) (lowest-clear-at t) lowest-clear.Post lowest-clear-Inv-loop lowest-clear-μ-loop
+lowest-clear-loop-less t c = search needs
+
+-- src/lib.rt:94:5
+lowest-clear-loop-again : (t : ℕ) → lowest-clear-lts.Need-loop-again (
+  reached-reads.Asked,
+  reached-reads.Learnt,
+  first-shown-reads.Asked,
+  first-shown-reads.Learnt,
+  take-out-reads.Asked,
+  take-out-reads.Learnt,
+  lowest-clear-below t,
+  lowest-clear.Post,
+) (lowest-clear-at t) lowest-clear.Post lowest-clear-Inv-loop lowest-clear-μ-loop
+lowest-clear-loop-again t c =
+    let l = c .before .before .before .before .before .before .before .loop in
+    let i = c .before .before .before .before .before .before .before .before in
+    let s = i .before .before .before .before .before in
+    let a = s .args in
+    let r = i .before .first-shown in
+    let o = c .before .before .before .take-out in
+    let mask = getD (a .table .now) (r .result * a .pattern .columns + l .column) 0 in
+    let e = ap (λ (u : Taken). u .pivot) (o .ensures .0) in
+    let w = taken-left mask (take (l .left) (l .rest)) (o .last .0) _ (o .result) (o .ensures .0) (o .ensures .1) in
+    let lt = c .before .before .before .before .before .before .loop-test .taken in (
+      o .kept .0 ∙ l .inv .0,
+      rw w (⊎-elim
+          (λ v.
+          rw (v .3) (branched-child (a .pattern) (a .table .now) (a .rows) (a .lowest) (take (a .free) (a .vectors)) (a .before) (r .result) (take (l .left) (l .rest)) (l .found) (v .2 .result) (l .column) lt (λ z. v .0 .taken (e ∙ z)) (l .inv .1)
+          (lowest-clear-finds (a .pattern) (a .table .now) (a .rows) _ _ (l .found) (v .2 .result) (rw (w, e) at (v .2 .ensures)))))
+          (λ v. rw (v .1) (branched-same (a .pattern) (a .table .now) (a .rows) (a .lowest) (take (a .free) (a .vectors)) (a .before) (r .result) (take (l .left) (l .rest)) (l .found) (l .column) lt (sym e ∙ v .0 .left) (l .inv .1)))
+          (c .if3 .came)),
+    )
+
+-- src/lib.rt:68:1
+lowest-clear-returns-3 : (t : ℕ) → lowest-clear-lts.Need-returns-3 (
+  reached-reads.Asked,
+  reached-reads.Learnt,
+  first-shown-reads.Asked,
+  first-shown-reads.Learnt,
+  take-out-reads.Asked,
+  take-out-reads.Learnt,
+  lowest-clear-below t,
+  lowest-clear.Post,
+) (lowest-clear-at t) lowest-clear.Post lowest-clear-Inv-loop lowest-clear-μ-loop
+lowest-clear-returns-3 t c =
+    let l = c .before .loop in
+    let i = c .before .before in
+    let s = i .before .before .before .before .before in
+    let a = s .args in
+    let t = i .before .first-shown in
+    let f = first-some (a .pattern) (a .table .now) (a .rows) (a .lowest) (t .result) (t .ensures) (i .if2 .left) in
+    finds-lowest-clear (a .pattern) (a .table .now) (a .rows) (a .lowest) (take (a .free) (a .vectors)) (a .before) (l .found)
+    (branched-end (a .pattern) (a .table .now) (a .rows) (a .lowest) (take (a .free) (a .vectors)) (a .before) (t .result) (take (l .left) (l .rest)) (l .found) (l .column) (omega arith) (f .0) (s .pre .1 .1) (f .1) (l .inv .1))
+
+pub +lowest-clear-spec : {M : Type 1} → statement M
++lowest-clear-spec = close μ-lowest-clear λ t. lowest-clear-lts.spec (
+  reached-reads.Asked,
+  reached-reads.Learnt,
+  first-shown-reads.Asked,
+  first-shown-reads.Learnt,
+  take-out-reads.Asked,
+  take-out-reads.Learnt,
+  lowest-clear-below t,
+  lowest-clear.Post,
+)
+    (lowest-clear-at t)
+    lowest-clear.Post
+    lowest-clear-Inv-loop
+    lowest-clear-μ-loop
+    (lowest-clear-reached-requires t)
+    (lowest-clear-returns t)
+    (lowest-clear-first-shown-requires t)
+    (lowest-clear-returns-2 t)
+    (lowest-clear-mul-first t)
+    (lowest-clear-loop-holds t)
+    (lowest-clear-slice-aggregate-take-out t)
+    (lowest-clear-add-take-out t)
+    (lowest-clear-mul-take-out t)
+    (lowest-clear-shared-slice-read-take-out t)
+    (lowest-clear-take-out-requires t)
+    (lowest-clear-lowest-clear-requires t)
+    (lowest-clear-add-column t)
+    (lowest-clear-loop-less t)
+    (lowest-clear-loop-again t)
+    (lowest-clear-returns-3 t)

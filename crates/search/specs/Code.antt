@@ -1,0 +1,20 @@
+-- What only contracts of functions inside the crate cite.
+--     reached found x               what was found is x or lower
+--     firstShown p table m x        the first row below m in which x shows the pattern, or m
+use mathlib.Core.Bool.{Bool, false}
+use mathlib.Core.Option.{Option·getD}
+use mathlib.Core.List.{List}
+use Prim.Native.Nat.{ℕ}
+use lib.Dec.{leb}
+use Rattle.bounded.specs.Bounded.{leastBelow}
+use Rattle.search.specs.Clauses.{shown}
+use Rattle.search.specs.declared.Pattern.{Pattern}
+use Rattle.search.specs.declared.Found.{Found}
+use Rattle.search.specs.declared.Found.the-variants.{State, Nothing}
+
+abbrev pub reached : Found → ℕ → Bool
+reached Nothing x = false
+reached (State s) x = leb s x
+
+unfoldable pub firstShown : Pattern → List ℕ → ℕ → ℕ → ℕ
+firstShown p table m x = Option·getD (leastBelow (λ t. shown p table t x) m) m

@@ -1,0 +1,111 @@
+// The search for the lowest member of a space that shows a pattern in no row of a table: branch and bound on the first row in which the lowest member shows it.
+ghost use mathlib.Core.Path.{_≡_};
+ghost use Prim.Native.Nat.{_+_, _*_, _≤_};
+ghost use lib.ListN.{length, take};
+ghost use Rattle.space.specs.Space.{Rising};
+ghost use Rattle.search.specs.Clauses.{shown as shownOf};
+ghost use Rattle.search.specs.Search.{lower, lowestClear};
+ghost use Rattle.search.specs.Code.{firstShown, reached as reachedOf};
+
+// The positions of a pattern, which are the columns of its table, and its bits there.
+pub struct Pattern {
+    pub columns: usize,
+    pub bits: u64,
+}
+
+// What a search has found.
+pub enum Found {
+    State(u64),
+    Nothing,
+}
+
+// Whether what was found is as low as a state.
+fn reached(found: Found, state: u64) -> bool
+    ensures { λ r. ⌜ r ≡ reachedOf found state ⌝ }
+{
+    match found {
+        Found::State(lowest) => lowest <= state,
+        Found::Nothing => false,
+    }
+}
+
+// Whether a state shows the pattern in a row: each mask reads its bit.
+fn shown(pattern: Pattern, table: &[u64], row: usize, state: u64) -> bool
+    requires { ⌜ row * pattern .columns + pattern .columns ≤ length (now table) ⌝ }
+    ensures { λ r. ⌜ r ≡ shownOf pattern (now (table .entry)) row state ⌝ }
+{
+    let columns = pattern.columns;
+    let first = row * columns;
+    let mut bits = pattern.bits;
+    let mut column: usize = 0;
+    while column < columns {
+        if gf2::odd(state, table[first + column]) != bits % 2 {
+            return false;
+        }
+        bits = bits / 2;
+        column += 1;
+    }
+    true
+}
+
+// The first row below the bound in which a state shows the pattern, or the bound.
+fn first_shown(pattern: Pattern, table: &[u64], rows: usize, state: u64) -> usize
+    requires { ⌜ rows * pattern .columns ≤ length (now table) ⌝ }
+    ensures { λ r. ⌜ r ≡ firstShown pattern (now (table .entry)) rows state ⌝ }
+{
+    let mut row: usize = 0;
+    while row < rows {
+        if shown(pattern, table, row, state) {
+            return row;
+        }
+        row += 1;
+    }
+    row
+}
+
+// The lower of what was found before and the lowest member of the space that shows the pattern in none of the first rows. The space is its lowest member and the first vectors.
+// An inner function: its callers show that the vectors rise, so that the lowest member is the lowest, and that the table has so many rows.
+pub fn lowest_clear(
+    pattern: Pattern,
+    table: &[u64],
+    rows: usize,
+    lowest: u64,
+    vectors: [u64; 64],
+    free: usize,
+    before: Found,
+) -> Found
+    requires { ⌜ Rising lowest 0 (take free vectors) ⌝ }
+    requires { ⌜ rows * pattern .columns ≤ length (now table) ⌝ }
+    ensures { λ r. ⌜ r ≡ lower before (lowestClear pattern (now (table .entry)) rows lowest (take free vectors)) ⌝ }
+{
+    if reached(before, lowest) {
+        return before;
+    }
+    let row = first_shown(pattern, table, rows, lowest);
+    if row == rows {
+        return Found::State(lowest);
+    }
+    let columns = pattern.columns;
+    let first = row * columns;
+    let mut rest = vectors;
+    let mut left = free;
+    let mut found = before;
+    let mut column: usize = 0;
+    while column < columns {
+        let taken = space::take_out(&mut rest, left, table[first + column]);
+        left = taken.left;
+        if taken.pivot != 0 {
+            found = lowest_clear(
+                pattern,
+                table,
+                rows,
+                lowest ^ taken.pivot,
+                rest,
+                left,
+                found,
+            );
+        }
+        column += 1;
+    }
+    found
+}
