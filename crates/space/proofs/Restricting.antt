@@ -1,12 +1,13 @@
 -- A space restricted by an equation.
 --     shifted-same, shifted-other     the lowest member, by what the lowest member of the whole reads
+--     restricted-with, restricted-left     the answer of `restrict`, and its vectors read off the buffer
 --     restrict-sound, restrict-complete     the members are exactly those of the whole that read the wanted bit
 --     restrict-rising                       the vectors rise still
 -- Assumes nothing.
 use mathlib.Core.Path.{_≡_, refl, sym, ap, _∙_, subst}
 use mathlib.Core.Logic.{_⊎_, inl, inr, ⊎-elim}
 use mathlib.Core.Bool.{Bool, true, false, _&&_}
-use mathlib.Core.List.{List}
+use mathlib.Core.List.{List, _++_}
 use Prim.Native.Nat.{ℕ, zero, suc, _+_, _%_, _<_}
 use native.Mathlib.Omega.{arith}
 use lib.Bits.{bitXor, xor-zero-r}
@@ -17,7 +18,8 @@ use Rattle.gf2.specs.Words.{odd}
 use Rattle.gf2.proofs.Parity.{odd-lt, xor-odd}
 use Rattle.gf2.proofs.Xor.{xor-twice}
 use Rattle.space.specs.Space.{shifted, restricted, pivot, without, Rising}
-use lib.ListN.{length}
+use lib.ListN.{length, take}
+use lib.Seq.{take-at}
 use Rattle.space.specs.declared.Space.{Space}
 use Rattle.space.specs.declared.Taken.{Taken}
 use Rattle.space.proofs.Members.{Among}
@@ -43,6 +45,11 @@ module _ (mask b : ℕ) (vs : List ℕ) (y : Space) where
   restricted-with t x s e q r =
       let l : x ≡ shifted mask b (y .lowest) (pivot mask vs) = q ∙ ap (λ (u : Taken). shifted mask b (y .lowest) (u .pivot)) e in
       rw (r, l, e)
+
+  -- its vectors, read off the buffer
+  pub restricted-left : (r : Space) (out rest : List ℕ) → r ≡ restricted mask b vs y → out ≡ without mask vs ++ rest → take (r .free) out ≡ without mask vs
+  unfolding restricted
+  restricted-left r out rest e q = rw (e, q) (take-at (without mask vs) rest (length (without mask vs)) refl)
 
 -- ---- what is left of a space
 

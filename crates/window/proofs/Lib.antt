@@ -1,0 +1,4 @@
+-- The laws of the search for a seed.
+pub mod Cutting
+pub mod Meeting
+pub mod Clauses

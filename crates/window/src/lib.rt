@@ -1,0 +1,76 @@
+// The seed of a window: the space of states that its bits and its closing stop allow, and the lowest member that does not show the stop before; and the longest window from a start.
+use causes::Cause;
+use checks::Verdict;
+use covering::Seed;
+use register::Settings;
+use search::Found;
+use search::Pattern;
+use slices::TestSlice;
+use space::Space;
+ghost use mathlib.Core.Bool.{false};
+ghost use mathlib.Core.List.{_++_};
+ghost use mathlib.Core.Path.{_≡_};
+ghost use Prim.Native.Nat.{suc, _*_, _^_, _<_, _≤_};
+ghost use lib.ListN.{drop, length, take};
+ghost use Rattle.register.specs.Machine.{base, machine};
+ghost use Rattle.slices.specs.Slices.{badSlices, paired};
+ghost use Rattle.checks.specs.Order.{judged};
+ghost use Rattle.checks.specs.Calls.{windowFaults};
+ghost use Rattle.checks.specs.declared.Verdict.the-variants as verdict;
+ghost use Rattle.covering.specs.Covering.{seedOf};
+ghost use Rattle.covering.specs.Single.{windowSeed, lowestOr7, WindowMeaning};
+ghost use Rattle.table.specs.Rows.{rowsOf};
+ghost use Rattle.table.specs.Chosen.{chosen as chosenOf};
+ghost use Rattle.search.specs.Search.{foundOf};
+ghost use Rattle.window.specs.Ready.{patternOf, Ready};
+ghost use Rattle.window.specs.Longest.{reachOf};
+ghost use Rattle.window.specs.Code.{meets, allMeet, Cut, TooLong};
+
+// The most entries of a table: rows 0 to 256 of 64 chains.
+pub const MOST_ENTRIES: usize = 16448;
+
+// The longest window from a start: how many slices it takes, and its seed; 0 and 0 where there is none.
+pub struct Reach {
+    pub slices: usize,
+    pub seed: u64,
+}
+
+// The table of the stop's chains, and the stop slice without its unspecified positions; every other entry stays as it was.
+// An inner function: its callers show that the buffer has an entry for each.
+pub fn fill_clauses(
+    taps: u64,
+    masks: &[u64],
+    stop: TestSlice,
+    rows: usize,
+    clauses: &mut [u64],
+) -> Pattern
+    requires { ⌜ (length (now masks) ≤ 64) × (rows * length (now masks) ≤ length (now clauses)) ⌝ }
+    ensures answer { λ r. ⌜ r ≡ patternOf stop (now (masks .entry)) ⌝ }
+    ensures buffer { λ _. ⌜ now (clauses .exit) ≡ rowsOf taps rows (chosenOf (stop .specified) (now (masks .entry))) ++ drop (rows * length (chosenOf (stop .specified) (now (masks .entry)))) (now (clauses .entry)) ⌝ }
+{
+    let mut chosen = [0u64; 64];
+    let columns = table::choose(stop.specified, masks, &mut chosen);
+    table::fill(taps, &chosen[..columns], rows, clauses);
+    let bits = table::pack(stop.specified, stop.bits, masks.len());
+    Pattern { columns, bits }
+}
+
+// The members of a space whose slice agrees with a test slice; the row reads that slice.
+fn meet(vectors: &mut [u64], space: Space, row: &[u64], specified: u64, bits: u64) -> Space
+    requires { ⌜ specified < 2 ^ length (now row) ⌝ }
+    ensures { λ r. ⌜ Cut (meets (now (row .entry)) specified bits) space (take (space .free) (now (vectors .entry))) r (take (r .free) (now (vectors .exit))) ⌝ }
+{
+    let mut kept = space;
+    let mut left = specified;
+    let mut values = bits;
+    let mut chain: usize = 0;
+    while left != 0 {
+        if left % 2 == 1 {
+            kept = space::restrict(vectors, kept, row[chain], values % 2);
+        }
+        left = left / 2;
+        values = values / 2;
+        chain += 1;
+    }
+    kept
+}
