@@ -2,3 +2,4 @@
 pub mod Agreeing
 pub mod Paired
 pub mod Causes
+pub mod Formed

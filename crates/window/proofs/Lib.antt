@@ -2,3 +2,5 @@
 pub mod Cutting
 pub mod Meeting
 pub mod Clauses
+pub mod Fitting
+pub mod Covering

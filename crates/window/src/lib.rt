@@ -10,7 +10,7 @@ use space::Space;
 ghost use mathlib.Core.Bool.{false};
 ghost use mathlib.Core.List.{_++_};
 ghost use mathlib.Core.Path.{_≡_};
-ghost use Prim.Native.Nat.{suc, _*_, _^_, _<_, _≤_};
+ghost use Prim.Native.Nat.{suc, _+_, _*_, _^_, _<_, _≤_};
 ghost use lib.ListN.{drop, length, take};
 ghost use Rattle.register.specs.Machine.{base, machine};
 ghost use Rattle.slices.specs.Slices.{badSlices, paired};
@@ -22,9 +22,10 @@ ghost use Rattle.covering.specs.Single.{windowSeed, lowestOr7, WindowMeaning};
 ghost use Rattle.table.specs.Rows.{rowsOf};
 ghost use Rattle.table.specs.Chosen.{chosen as chosenOf};
 ghost use Rattle.search.specs.Search.{foundOf};
+ghost use Rattle.search.specs.Clauses.{row as rowOf};
 ghost use Rattle.window.specs.Ready.{patternOf, Ready};
 ghost use Rattle.window.specs.Longest.{reachOf};
-ghost use Rattle.window.specs.Code.{meets, allMeet, Cut, TooLong};
+ghost use Rattle.window.specs.Code.{allStates, allowed, Cut, Fits, meets};
 
 // The most entries of a table: rows 0 to 256 of 64 chains.
 pub const MOST_ENTRIES: usize = 16448;
@@ -33,6 +34,12 @@ pub const MOST_ENTRIES: usize = 16448;
 pub struct Reach {
     pub slices: usize,
     pub seed: u64,
+}
+
+// What is left of a space after the slices of a window: its members, and how many of the slices they meet from the first on.
+struct Kept {
+    space: Space,
+    slices: usize,
 }
 
 // The table of the stop's chains, and the stop slice without its unspecified positions; every other entry stays as it was.
@@ -71,6 +78,87 @@ fn meet(vectors: &mut [u64], space: Space, row: &[u64], specified: u64, bits: u6
         left = left / 2;
         values = values / 2;
         chain += 1;
+    }
+    kept
+}
+
+// The same by a row of the table.
+fn meet_row(
+    vectors: &mut [u64],
+    space: Space,
+    table: &[u64],
+    chains: usize,
+    row: usize,
+    test: TestSlice,
+) -> Space
+    requires { ⌜ test .specified < 2 ^ chains ⌝ }
+    requires { ⌜ row * chains + chains ≤ length (now table) ⌝ }
+    ensures { λ r. ⌜ Cut (meets (rowOf chains (now (table .entry)) row) (test .specified) (test .bits)) space (take (space .free) (now (vectors .entry))) r (take (r .free) (now (vectors .exit))) ⌝ }
+{
+    let first = row * chains;
+    let next = first + chains;
+    meet(vectors, space, &table[first..next], test.specified, test.bits)
+}
+
+// The members of a space whose slices agree with the window, row by row; it ends at the first slice that none of them meets.
+fn fit(
+    vectors: &mut [u64],
+    space: Space,
+    table: &[u64],
+    chains: usize,
+    specified: &[u64],
+    bits: &[u64],
+) -> Kept
+    requires { ⌜ badSlices chains (now specified) (now bits) ≡ false ⌝ }
+    requires { ⌜ length (now specified) * chains ≤ length (now table) ⌝ }
+    ensures { λ r. ⌜ Fits chains (now (table .entry)) (paired (now (specified .entry)) (now (bits .entry))) space (take (space .free) (now (vectors .entry))) r (take (r .space .free) (now (vectors .exit))) ⌝ }
+{
+    let mut kept = space;
+    let mut slice: usize = 0;
+    while slice < specified.len() {
+        let test = TestSlice {
+            specified: specified[slice],
+            bits: bits[slice],
+        };
+        kept = meet_row(vectors, kept, table, chains, slice, test);
+        if !kept.some {
+            return Kept {
+                space: kept,
+                slices: slice,
+            };
+        }
+        slice += 1;
+    }
+    Kept {
+        space: kept,
+        slices: slice,
+    }
+}
+
+// The states that the bits of a window and, where it must close, its closing stop allow. The buffer holds the unit vectors at first.
+fn allow(
+    vectors: &mut [u64],
+    cells: usize,
+    table: &[u64],
+    chains: usize,
+    stop: TestSlice,
+    closing: bool,
+    specified: &[u64],
+    bits: &[u64],
+) -> Space
+    requires { ⌜ (badSlices chains (now specified) (now bits) ≡ false) × (stop .specified < 2 ^ chains) ⌝ }
+    requires { ⌜ suc (length (now specified)) * chains ≤ length (now table) ⌝ }
+    ensures { λ r. ⌜ Cut (allowed chains (now (table .entry)) stop closing (paired (now (specified .entry)) (now (bits .entry)))) (allStates cells) (take cells (now (vectors .entry))) r (take (r .free) (now (vectors .exit))) ⌝ }
+{
+    let all = Space {
+        lowest: 0,
+        free: cells,
+        some: true,
+    };
+    let fitted = fit(vectors, all, table, chains, specified, bits);
+    let kept = fitted.space;
+    if closing {
+        return meet_row(vectors, kept, table, chains, specified.len(), stop);
     }
     kept
 }

@@ -1,0 +1,127 @@
+-- Laws of meeting the slices of a window, as its loop goes up through them.
+--     row-part          a row of the table, as a part of it
+--     meet-last         one slice more
+--     meet-front        who meets more slices meets fewer
+--     Fitted            what the loop keeps: the members that meet the slices so far
+--     allowed-closed, allowed-open     the closing stop after the slices, or none
+--     fitted-start, fitted-next, fitted-stop, fitted-end     at the start, after a slice, where nothing is left, and at the end
+-- Assumes nothing.
+use mathlib.Core.Path.{_≡_, refl, sym, ap, _∙_, subst}
+use mathlib.Core.Bool.{Bool, true, false, _&&_}
+use mathlib.Core.List.{List, [], _∷_, _++_}
+use Prim.Native.Nat.{ℕ, zero, suc, _+_, _-_, _*_, _≤_, _<_}
+use native.Mathlib.Numerals.{add-one}
+use native.Mathlib.Omega.{arith}
+use lib.ListN.{getD, length, take, drop}
+use lib.Seq.{take-all}
+use Rattle.bounded.proofs.Tests.{clash, both, and-yes}
+use Rattle.space.specs.declared.Space.{Space}
+use Rattle.search.specs.Clauses.{row}
+use Rattle.slices.specs.declared.TestSlice.{TestSlice}
+use Rattle.slices.specs.Slices.{paired, badSlices}
+use Rattle.slices.proofs.Causes.{sliceAt, slices-equal}
+use Rattle.slices.proofs.Paired.{paired-length, paired-at}
+use Rattle.window.specs.Code.{meets, allMeet, allowed, Member, Cut, Fits}
+use Rattle.window.specs.declared.Kept.{Kept}
+use Rattle.window.proofs.Cutting.{cut-none, cut-same, cut-then}
+
+pub row-part : (c : ℕ) (table : List ℕ) (t : ℕ) → take (t * c + c - t * c) (drop (t * c) table) ≡ row c table t
+row-part c table t = let e : t * c + c - t * c ≡ c = omega arith in rw e
+
+and-true : (b : Bool) → (b && true) ≡ b
+and-true true = refl
+and-true false = refl
+
+module _ (c : ℕ) (table : List ℕ) where
+  abbrev Meets : ℕ → TestSlice → ℕ → Bool
+  Meets t x s = meets (row c table t) (x .specified) (x .bits) s
+
+  meet-last : (w : List TestSlice) (t k s : ℕ) (d : TestSlice) → k < length w → allMeet c table t (take (suc k) w) s ≡ (allMeet c table t (take k w) s && Meets (t + k) (getD w k d) s)
+  unfolding allMeet
+  meet-last [] t k s d h = absurd (omega arith)
+  meet-last (x ∷ w) t zero s d h = let e : t + 0 ≡ t = omega arith in rw e (and-true (Meets t x s))
+  meet-last (x ∷ w) t (suc k) s d h =
+      let e : t + suc k ≡ suc t + k = omega arith in
+      rw e (ap (λ (b : Bool). Meets t x s && b) (meet-last w (suc t) k s d (omega arith)) ∙ and-assoc (Meets t x s) (allMeet c table (suc t) (take k w) s) (Meets (suc t + k) (getD w k d) s))
+    where
+      and-assoc : (a b d : Bool) → (a && (b && d)) ≡ ((a && b) && d)
+      and-assoc true b d = refl
+      and-assoc false b d = refl
+
+  pub meet-front : (w : List TestSlice) (t j k s : ℕ) → j ≤ k → allMeet c table t (take k w) s ≡ true → allMeet c table t (take j w) s ≡ true
+  unfolding allMeet
+  meet-front w t zero k s h e = refl
+  meet-front w t (suc j) zero s h e = absurd (omega arith)
+  meet-front [] t (suc j) (suc k) s h e = refl
+  meet-front (x ∷ w) t (suc j) (suc k) s h e =
+      let a = both (Meets t x s) (allMeet c table (suc t) (take k w) s) e in
+      and-yes (Meets t x s) (allMeet c table (suc t) (take j w) s) (a .0) (meet-front w (suc t) j k s (omega arith) (a .1))
+
+  module _ (w : List TestSlice) (x : Space) (us : List ℕ) where
+    abbrev Q : ℕ → ℕ → Bool
+    Q k s = allMeet c table 0 (take k w) s
+
+    abbrev pub Fitted : ℕ → Space → List ℕ → Type 0
+    Fitted k y vs = Cut (Q k) x us y vs
+
+    pub fitted-start : Fitted 0 x us
+    unfolding allMeet
+    fitted-start = cut-none x us
+
+    pub fitted-next : (k : ℕ) (d : TestSlice) (y : Space) (vs : List ℕ) (z : Space) (ws : List ℕ) → k < length w → Fitted k y vs → Cut (Meets k (getD w k d)) y vs z ws → Fitted (k + 1) z ws
+    fitted-next k d y vs z ws h f g =
+        let e : 0 + k ≡ k = omega arith in
+        cut-same (λ s. Q k s && Meets k (getD w k d) s) (Q (k + 1)) x us z ws
+        (λ s. sym (ap (λ (n : ℕ). Q n s) (add-one k) ∙ meet-last w 0 k s d h ∙ ap (λ (n : ℕ). Q k s && Meets n (getD w k d) s) e))
+        (cut-then (Q k) (Meets k (getD w k d)) x us y vs z ws f g)
+
+    none : (k : ℕ) (z : Space) (ws : List ℕ) → Fitted k z ws → z .some ≡ false → (s : ℕ) → Member x us s → Q k s ≡ true → ⊥
+    none k z ws f e s m q = clash (z .some) (f .complete s m q .0) e
+
+    pub fitted-stop : (k : ℕ) (z : Space) (ws : List ℕ) → k < length w → Fitted (k + 1) z ws → z .some ≡ false → Fits c table w x us (record { space = z; slices = k }) ws
+    fitted-stop k z ws h f e = record {
+      within = omega arith;
+      whole = record {
+        sound = λ s m. absurd (clash (z .some) (m .0) e);
+        complete = λ s m q. absurd (none (k + 1) z ws f e s m (meet-front w 0 (k + 1) (length w) s (omega arith) (rw (take-all (length w) w (omega arith)) q)));
+        rising = λ r t. absurd (clash (z .some) t e);
+      };
+      more = λ j s l b m. go (Q j s) (λ q. none (k + 1) z ws f e s m (meet-front w 0 (k + 1) j s (omega arith) q));
+    }
+      where
+        go : (b : Bool) → (b ≡ true → ⊥) → b ≡ false
+        go true n = absurd (n refl)
+        go false n = refl
+
+    pub fitted-end : (k : ℕ) (z : Space) (ws : List ℕ) → k ≤ length w → length w ≤ k → Fitted k z ws → Fits c table w x us (record { space = z; slices = k }) ws
+    fitted-end k z ws h l f =
+        let e : k ≡ length w = omega arith in
+        record {
+          within = h;
+          whole = cut-same (Q k) (allMeet c table 0 w) x us z ws (λ s. ap (λ (v : List TestSlice). allMeet c table 0 v s) (take-all k w (omega arith))) f;
+          more = λ j s a b m. absurd (omega arith);
+        }
+
+-- ---- what the loop reads at a place
+
+module _ (c : ℕ) (ps bs : List ℕ) (b : badSlices c ps bs ≡ false) where
+  pub long-enough : length (paired ps bs) ≡ length ps
+  long-enough = paired-length ps bs (slices-equal c ps bs b)
+
+  pub slice-here : (i : ℕ) (d : TestSlice) → i < length ps → getD (paired ps bs) i d ≡ sliceAt ps bs i
+  slice-here i d h = paired-at ps bs i d h (slices-equal c ps bs b)
+
+-- ---- with the closing stop, and without
+
+module _ (c : ℕ) (table : List ℕ) (stop : TestSlice) (w : List TestSlice) (x : Space) (us : List ℕ) (y : Space) (vs : List ℕ) where
+  pub allowed-closed : (z : Space) (ws : List ℕ) (closing : Bool) (n : ℕ) → closing ≡ true → length w ≡ n → Cut (allMeet c table 0 w) x us y vs
+      → Cut (meets (row c table n) (stop .specified) (stop .bits)) y vs z ws → Cut (allowed c table stop closing w) x us z ws
+  unfolding allowed
+  allowed-closed z ws closing n e l f g =
+      cut-same (λ s. allMeet c table 0 w s && meets (row c table n) (stop .specified) (stop .bits) s) (allowed c table stop closing w) x us z ws
+      (λ s. rw (e, l))
+      (cut-then (allMeet c table 0 w) (meets (row c table n) (stop .specified) (stop .bits)) x us y vs z ws f g)
+
+  pub allowed-open : (closing : Bool) → closing ≡ false → Cut (allMeet c table 0 w) x us y vs → Cut (allowed c table stop closing w) x us y vs
+  unfolding allowed
+  allowed-open closing e f = cut-same (allMeet c table 0 w) (allowed c table stop closing w) x us y vs (λ s. rw e (sym (and-true (allMeet c table 0 w s)))) f
