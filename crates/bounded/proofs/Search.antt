@@ -1,17 +1,19 @@
 -- What a bounded search answers.
 --     LeastIs, LastIs      what an answer says, by the answer
 --     least-is, last-is    the answer of the search says it
+--     last-of, last-none   the answer of a search that goes down, from what it says
+--     least-same           two tests that pass the same numbers have the same least
 --     least-of, none-of    the answer from what it says: of a loop that goes up, what it passed over and what it stops at
 -- Assumes nothing.
-use mathlib.Core.Path.{_≡_, refl, ap}
+use mathlib.Core.Path.{_≡_, refl, sym, ap}
 use mathlib.Core.Logic.{⊎-elim}
 use mathlib.Core.Bool.{Bool, true, false}
 use mathlib.Core.Option.{Option, none, some}
 use Prim.Native.Nat.{ℕ, zero, suc, _<_}
-use native.Mathlib.Nat.{not-suc-le-zero, le-of-suc-le-suc, eq-or-lt-of-le}
+use native.Mathlib.Nat.{not-suc-le-zero, le-of-suc-le-suc, eq-or-lt-of-le, lt-of-lt-of-le, le-of-lt}
 use native.Mathlib.Omega.{arith}
 use Rattle.bounded.specs.Bounded.{leastBelow, lastBelow, NoneBelow, Least, Last}
-use Rattle.bounded.proofs.Tests.{clash, lt-or-le}
+use Rattle.bounded.proofs.Tests.{clash, fails, lt-or-le}
 
 abbrev pub LeastIs : (ℕ → Bool) → ℕ → Option ℕ → Type 0
 LeastIs p n none = NoneBelow p n
@@ -70,3 +72,31 @@ module _ (p : ℕ → Bool) (n : ℕ) where
       go : (o : Option ℕ) → LeastIs p n o → o ≡ none
       go none all = refl
       go (some g) l = absurd (clash (p g) (l .passes) (none-yet g (l .below)))
+
+  pub last-of : (k : ℕ) → k < n → p k ≡ true → ((j : ℕ) → k < j → j < n → p j ≡ false) → lastBelow p n ≡ some k
+  last-of k h t none-later = go (lastBelow p n) (last-is p n)
+    where
+      go : (o : Option ℕ) → LastIs p n o → o ≡ some k
+      go none all = absurd (clash (p k) t (all k h))
+      go (some g) l = ap some (⊎-elim
+          (λ lt. absurd (clash (p g) (l .passes) (none-later g lt (l .below))))
+          (λ le. omega (arith, l .greatest k h t))
+          (lt-or-le k g))
+
+  pub last-none : NoneBelow p n → lastBelow p n ≡ none
+  last-none none-yet = go (lastBelow p n) (last-is p n)
+    where
+      go : (o : Option ℕ) → LastIs p n o → o ≡ none
+      go none all = refl
+      go (some g) l = absurd (clash (p g) (l .passes) (none-yet g (l .below)))
+
+-- two tests that pass the same numbers below their bounds have the same least
+pub least-same : (p q : ℕ → Bool) (m n : ℕ) → ((s : ℕ) → s < m → p s ≡ true → (s < n) × (q s ≡ true)) → ((s : ℕ) → s < n → q s ≡ true → (s < m) × (p s ≡ true))
+    → leastBelow p m ≡ leastBelow q n
+least-same p q m n to from = go (leastBelow p m) (least-is p m)
+  where
+    go : (o : Option ℕ) → LeastIs p m o → o ≡ leastBelow q n
+    go none all = sym (none-of q n (λ k h. fails (q k) (λ t. let a = from k h t in clash (p k) (a .1) (all k (a .0)))))
+    go (some g) l =
+        let a = to g (l .below) (l .passes) in
+        sym (least-of q n g (a .0) (λ k h. fails (q k) (λ t. let b = from k (lt-of-lt-of-le h (le-of-lt (a .0))) t in clash (p k) (b .1) (l .least k h))) (a .1))

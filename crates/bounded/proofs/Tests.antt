@@ -2,7 +2,9 @@
 --     clash          a test is not both true and false
 --     lt-or-le       two numbers compare
 --     eq-or-not      two numbers are one, or not
+--     fails          a test that does not hold is false
 --     both, and-yes     a conjunction is true, and its parts are
+--     and-true, and-assoc     nothing more is asked; what is asked in turn
 --     alike          two tests, each true where the other is, are one
 --     neither        a disjunction is false, and its parts are
 --     within-yes, below-within     what "low to high" says
@@ -33,12 +35,24 @@ eq-or-not a b = go (eqb a b) refl
     go true e = inl (eqb-true a b e)
     go false e = inr (eqb-false a b e)
 
+pub fails : (b : Bool) → (b ≡ true → ⊥) → b ≡ false
+fails true f = absurd (f refl)
+fails false f = refl
+
 pub both : (a b : Bool) → a && b ≡ true → (a ≡ true) × (b ≡ true)
 both true b e = (refl, e)
 both false b e = (e, cc)
 
 pub and-yes : (a b : Bool) → a ≡ true → b ≡ true → a && b ≡ true
 and-yes a b p q = rw (p, q)
+
+pub and-true : (b : Bool) → (b && true) ≡ b
+and-true true = refl
+and-true false = refl
+
+pub and-assoc : (a b c : Bool) → (a && (b && c)) ≡ ((a && b) && c)
+and-assoc true b c = refl
+and-assoc false b c = refl
 
 pub alike : (a b : Bool) → (a ≡ true → b ≡ true) → (b ≡ true → a ≡ true) → a ≡ b
 alike true b f g = sym (f refl)

@@ -18,7 +18,7 @@ use lib.Dec.{eqb}
 use lib.ListN.{getD, length, take, drop, length-map}
 use borrow.Author.Tests.{eqb-true, eq-eqb, ne-eqb, not-true, not-false}
 use Rattle.bounded.specs.Bounded.{any, within}
-use Rattle.bounded.proofs.Tests.{clash, both, and-yes, alike, neither, eq-or-not}
+use Rattle.bounded.proofs.Tests.{both, and-yes, and-assoc, alike, neither, eq-or-not}
 use Rattle.gf2.specs.Words.{digit, odd, beyond}
 use Rattle.gf2.proofs.Digits.{no-beyond}
 use Rattle.gf2.proofs.Parity.{odd-lt}
@@ -41,10 +41,6 @@ use Rattle.covering.specs.Covering.{fits, quiet, covers}
 use Rattle.window.specs.Ready.{patternOf, Ready}
 use Rattle.window.specs.Code.{meets, allMeet, allowed}
 use Rattle.window.proofs.Meeting.{meets-take, meets-skip}
-
-and-assoc : (a b d : Bool) → (a && (b && d)) ≡ ((a && b) && d)
-and-assoc true b d = refl
-and-assoc false b d = refl
 
 -- ---- one slice
 

@@ -14,7 +14,7 @@ use native.Mathlib.Numerals.{add-one}
 use native.Mathlib.Omega.{arith}
 use lib.ListN.{getD, length, take, drop}
 use lib.Seq.{take-all}
-use Rattle.bounded.proofs.Tests.{clash, both, and-yes}
+use Rattle.bounded.proofs.Tests.{clash, fails, both, and-yes, and-true, and-assoc}
 use Rattle.space.specs.declared.Space.{Space}
 use Rattle.search.specs.Clauses.{row}
 use Rattle.slices.specs.declared.TestSlice.{TestSlice}
@@ -28,10 +28,6 @@ use Rattle.window.proofs.Cutting.{cut-none, cut-same, cut-then}
 pub row-part : (c : ℕ) (table : List ℕ) (t : ℕ) → take (t * c + c - t * c) (drop (t * c) table) ≡ row c table t
 row-part c table t = let e : t * c + c - t * c ≡ c = omega arith in rw e
 
-and-true : (b : Bool) → (b && true) ≡ b
-and-true true = refl
-and-true false = refl
-
 module _ (c : ℕ) (table : List ℕ) where
   abbrev Meets : ℕ → TestSlice → ℕ → Bool
   Meets t x s = meets (row c table t) (x .specified) (x .bits) s
@@ -43,10 +39,6 @@ module _ (c : ℕ) (table : List ℕ) where
   meet-last (x ∷ w) t (suc k) s d h =
       let e : t + suc k ≡ suc t + k = omega arith in
       rw e (ap (λ (b : Bool). Meets t x s && b) (meet-last w (suc t) k s d (omega arith)) ∙ and-assoc (Meets t x s) (allMeet c table (suc t) (take k w) s) (Meets (suc t + k) (getD w k d) s))
-    where
-      and-assoc : (a b d : Bool) → (a && (b && d)) ≡ ((a && b) && d)
-      and-assoc true b d = refl
-      and-assoc false b d = refl
 
   pub meet-front : (w : List TestSlice) (t j k s : ℕ) → j ≤ k → allMeet c table t (take k w) s ≡ true → allMeet c table t (take j w) s ≡ true
   unfolding allMeet
@@ -86,12 +78,8 @@ module _ (c : ℕ) (table : List ℕ) where
         complete = λ s m q. absurd (none (k + 1) z ws f e s m (meet-front w 0 (k + 1) (length w) s (omega arith) (rw (take-all (length w) w (omega arith)) q)));
         rising = λ r t. absurd (clash (z .some) t e);
       };
-      more = λ j s l b m. go (Q j s) (λ q. none (k + 1) z ws f e s m (meet-front w 0 (k + 1) j s (omega arith) q));
+      more = λ j s l b m. fails (Q j s) (λ q. none (k + 1) z ws f e s m (meet-front w 0 (k + 1) j s (omega arith) q));
     }
-      where
-        go : (b : Bool) → (b ≡ true → ⊥) → b ≡ false
-        go true n = absurd (n refl)
-        go false n = refl
 
     pub fitted-end : (k : ℕ) (z : Space) (ws : List ℕ) → k ≤ length w → length w ≤ k → Fitted k z ws → Fits c table w x us (record { space = z; slices = k }) ws
     fitted-end k z ws h l f =

@@ -4,3 +4,5 @@ pub mod Meeting
 pub mod Clauses
 pub mod Fitting
 pub mod Covering
+pub mod Seeds
+pub mod Reaching

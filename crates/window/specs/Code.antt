@@ -4,12 +4,13 @@
 --     Member y vs s           s is a member of the space y with the vectors vs
 --     Cut Q y vs z ws         the members of z are exactly those of y that pass Q, and the vectors rise still
 --     Fits c table w x us r vs     r holds the members of x that meet all slices w; no member meets more of them, from the first on, than r says
+--     Unmet c table w cells k     no state meets more than k of the slices w from the first on
 --     allStates cells         the space of all states, over the unit vectors
 --     allowed c table stop closing w s     s meets the slices w and, where it must close, shows the stop after them
 use mathlib.Core.Path.{_≡_}
 use mathlib.Core.Bool.{Bool, true, false, not, _&&_, _||_}
 use mathlib.Core.List.{List, [], _∷_}
-use Prim.Native.Nat.{ℕ, suc, _/_, _%_, _≤_, _<_}
+use Prim.Native.Nat.{ℕ, suc, _^_, _/_, _%_, _≤_, _<_}
 use lib.Dec.{eqb}
 use lib.ListN.{length, take}
 use Rattle.gf2.specs.Words.{odd}
@@ -46,3 +47,7 @@ allStates cells = record { lowest = 0; free = cells; some = true }
 -- The bits alone, and with the closing stop.
 unfoldable pub allowed : ℕ → List ℕ → TestSlice → Bool → List TestSlice → ℕ → Bool
 allowed c table stop closing w s = allMeet c table 0 w s && (not closing || meets (row c table (length w)) (stop .specified) (stop .bits) s)
+
+pub record Unmet (c : ℕ) (table : List ℕ) (w : List TestSlice) (cells k : ℕ) : Type 0 where
+  pub within : k ≤ length w
+  pub more : (j s : ℕ) → k < j → j ≤ length w → s < 2 ^ cells → allMeet c table 0 (take j w) s ≡ false

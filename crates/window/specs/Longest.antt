@@ -14,7 +14,7 @@ use Rattle.register.specs.Machine.{Machine}
 use Rattle.slices.specs.declared.TestSlice.{TestSlice}
 use Rattle.covering.specs.Covering.{seedOf}
 use Rattle.covering.specs.Windows.{found}
-use Rattle.window.specs.declared.Reach.{Reach}
+use Rattle.window.specs.declared.Window.{Window}
 
 abbrev pub closesAt : Bool → List TestSlice → ℕ → Bool
 closesAt closing w k = closing || ltb k (length w)
@@ -25,7 +25,7 @@ seedFor M stop closing w k = seedOf M stop (closesAt closing w k) (take k w)
 unfoldable pub longest : Machine → TestSlice → Bool → List TestSlice → Option ℕ
 longest M stop closing w = lastBelow (λ k. ltb 0 k && found (seedFor M stop closing w k)) (suc (length w))
 
-unfoldable pub reachOf : Machine → TestSlice → Bool → List TestSlice → Reach
+unfoldable pub reachOf : Machine → TestSlice → Bool → List TestSlice → Window
 reachOf M stop closing w = elim (longest M stop closing w) [
   | none ↦ record { slices = 0; seed = 0 }
   | some k ↦ record { slices = k; seed = Option·getD (seedFor M stop closing w k) 0 }

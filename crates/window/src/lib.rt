@@ -7,10 +7,11 @@ use search::Found;
 use search::Pattern;
 use slices::TestSlice;
 use space::Space;
-ghost use mathlib.Core.Bool.{false};
+ghost use mathlib.Core.Bool.{true, false};
 ghost use mathlib.Core.List.{_++_};
+ghost use mathlib.Core.Option.{Option};
 ghost use mathlib.Core.Path.{_≡_};
-ghost use Prim.Native.Nat.{suc, _+_, _*_, _^_, _<_, _≤_};
+ghost use Prim.Native.Nat.{ℕ, suc, _+_, _*_, _^_, _<_, _≤_};
 ghost use lib.ListN.{drop, length, take};
 ghost use Rattle.register.specs.Machine.{base, machine};
 ghost use Rattle.slices.specs.Slices.{badSlices, paired};
@@ -25,13 +26,13 @@ ghost use Rattle.search.specs.Search.{foundOf};
 ghost use Rattle.search.specs.Clauses.{row as rowOf};
 ghost use Rattle.window.specs.Ready.{patternOf, Ready};
 ghost use Rattle.window.specs.Longest.{reachOf};
-ghost use Rattle.window.specs.Code.{allStates, allowed, Cut, Fits, meets};
+ghost use Rattle.window.specs.Code.{allStates, allowed, Cut, Fits, meets, Unmet};
 
 // The most entries of a table: rows 0 to 256 of 64 chains.
 pub const MOST_ENTRIES: usize = 16448;
 
 // The longest window from a start: how many slices it takes, and its seed; 0 and 0 where there is none.
-pub struct Reach {
+pub struct Window {
     pub slices: usize,
     pub seed: u64,
 }
@@ -161,4 +162,164 @@ fn allow(
         return meet_row(vectors, kept, table, chains, specified.len(), stop);
     }
     kept
+}
+
+// The lowest state that covers a window: the lowest of those that the bits and the closing stop allow that does not show the stop before.
+// An inner function: its callers show that the window is well-formed and that the tables are those of the register, the chains and the stop slice.
+pub fn lowest_covering(
+    settings: Settings,
+    masks: &[u64],
+    stop: TestSlice,
+    pattern: Pattern,
+    table: &[u64],
+    clauses: &[u64],
+    closing: bool,
+    specified: &[u64],
+    bits: &[u64],
+) -> Found
+    requires { ⌜ Ready settings (now masks) stop pattern (now table) (now clauses) (suc (length (now specified))) ⌝ }
+    requires { ⌜ badSlices (length (now masks)) (now specified) (now bits) ≡ false ⌝ }
+    ensures { λ r. ⌜ r ≡ foundOf (seedOf (machine settings (now (masks .entry))) stop closing (paired (now (specified .entry)) (now (bits .entry)))) ⌝ }
+{
+    let mut vectors = space::units();
+    let cells = settings.cells;
+    let chains = masks.len();
+    let allowed = allow(
+        &mut vectors,
+        cells,
+        table,
+        chains,
+        stop,
+        closing,
+        specified,
+        bits,
+    );
+    if !allowed.some {
+        return Found::Nothing;
+    }
+    search::lowest_clear(
+        pattern,
+        clauses,
+        specified.len(),
+        allowed.lowest,
+        vectors,
+        allowed.free,
+        Found::Nothing,
+    )
+}
+
+// How many slices of a part, from the first on, can be met together.
+fn most_met(
+    cells: usize,
+    table: &[u64],
+    chains: usize,
+    specified: &[u64],
+    bits: &[u64],
+) -> usize
+    requires { ⌜ badSlices chains (now specified) (now bits) ≡ false ⌝ }
+    requires { ⌜ (cells ≤ 64) × (length (now specified) * chains ≤ length (now table)) ⌝ }
+    ensures { λ r. ⌜ Unmet chains (now (table .entry)) (paired (now (specified .entry)) (now (bits .entry))) cells r ⌝ }
+{
+    let mut vectors = space::units();
+    let all = Space {
+        lowest: 0,
+        free: cells,
+        some: true,
+    };
+    let fitted = fit(&mut vectors, all, table, chains, specified, bits);
+    fitted.slices
+}
+
+// The longest window from the first slice of a part on that some state covers, and its seed: lengths are tried from the longest whose bits alone can be met down.
+// A window that takes the whole part closes with its stop where `closing` says so, a shorter one always.
+// An inner function: its callers show that the part is well-formed and that the tables are those of the register, the chains and the stop slice.
+pub fn reach(
+    settings: Settings,
+    masks: &[u64],
+    stop: TestSlice,
+    pattern: Pattern,
+    table: &[u64],
+    clauses: &[u64],
+    closing: bool,
+    specified: &[u64],
+    bits: &[u64],
+) -> Window
+    requires { ⌜ Ready settings (now masks) stop pattern (now table) (now clauses) (suc (length (now specified))) ⌝ }
+    requires { ⌜ badSlices (length (now masks)) (now specified) (now bits) ≡ false ⌝ }
+    ensures { λ r. ⌜ r ≡ reachOf (machine settings (now (masks .entry))) stop closing (paired (now (specified .entry)) (now (bits .entry))) ⌝ }
+{
+    let whole = specified.len();
+    let mut slices = most_met(settings.cells, table, masks.len(), specified, bits);
+    while 0 < slices {
+        let closes = closing || slices < whole;
+        let found = lowest_covering(
+            settings,
+            masks,
+            stop,
+            pattern,
+            table,
+            clauses,
+            closes,
+            &specified[..slices],
+            &bits[..slices],
+        );
+        if let Found::State(seed) = found {
+            return Window { slices, seed };
+        }
+        slices -= 1;
+    }
+    Window { slices: 0, seed: 0 }
+}
+
+// What was found, as the answer for a single window: the lowest covering state, or cause 7.
+fn answer(found: Found) -> Seed
+    ensures { λ r. ⌜ ((o : Option ℕ) → found ≡ foundOf o → r ≡ lowestOr7 o) ⌝ }
+{
+    match found {
+        Found::State(seed) => Seed::Lowest(seed),
+        Found::Nothing => Seed::Refused(Cause::NoSeed),
+    }
+}
+
+// The seed of a well-formed window.
+fn seed_of(
+    settings: Settings,
+    masks: &[u64],
+    stop: TestSlice,
+    specified: &[u64],
+    bits: &[u64],
+) -> Seed
+    requires { ⌜ (judged (windowFaults settings (now masks) stop (now specified) (now bits)) ≡ verdict.WellFormed) × (settings .limit ≡ 256) ⌝ }
+    ensures { λ r. ⌜ r ≡ lowestOr7 (seedOf (machine settings (now (masks .entry))) stop true (paired (now (specified .entry)) (now (bits .entry)))) ⌝ }
+{
+    let mut table = [0u64; MOST_ENTRIES];
+    let mut clauses = [0u64; MOST_ENTRIES];
+    let taps = settings.taps;
+    let rows = specified.len() + 1;
+    table::fill(taps, masks, rows, &mut table);
+    let pattern = fill_clauses(taps, masks, stop, rows, &mut clauses);
+    let found = lowest_covering(
+        settings, masks, stop, pattern, &table, &clauses, true, specified, bits,
+    );
+    answer(found)
+}
+
+// The seed of a window: the lowest state that covers it, or the first of causes 1 to 5 that holds, then 7.
+pub fn window_seed(
+    cells: usize,
+    taps: u64,
+    masks: &[u64],
+    stop: TestSlice,
+    specified: &[u64],
+    bits: &[u64],
+) -> Seed
+    ensures answer { λ r. ⌜ r ≡ windowSeed (base cells taps) (now (masks .entry)) stop (now (specified .entry)) (now (bits .entry)) ⌝ }
+    ensures meaning { λ r. ⌜ WindowMeaning (base cells taps) (now (masks .entry)) stop (now (specified .entry)) (now (bits .entry)) r ⌝ }
+{
+    let settings = register::base(cells, taps);
+    let verdict = checks::check_window(settings, masks, stop, specified, bits);
+    match verdict {
+        Verdict::Refused(cause) => Seed::Refused(cause),
+        Verdict::WellFormed => seed_of(settings, masks, stop, specified, bits),
+    }
 }

@@ -1,0 +1,106 @@
+-- The longest window from a start, as its loop goes down through the lengths.
+--     state-some, nothing-none     what was found says whether there is a seed
+--     Passed            no longer length has a seed
+--     passed-start      those whose bits cannot be met together have none
+--     passed-next       one length more has none
+--     reach-found, reach-none     the length that has one, or none has
+-- Assumes nothing.
+use mathlib.Core.Path.{_≡_, refl, sym, ap, ap₂, _∙_, subst}
+use mathlib.Core.Logic.{⊎-elim}
+use mathlib.Core.Bool.{Bool, true, false, _&&_, _||_}
+use mathlib.Core.Option.{Option, none, some, Option·getD}
+use mathlib.Core.List.{List}
+use Prim.Native.Nat.{ℕ, zero, suc, _+_, _-_, _≤_, _<_}
+use native.Mathlib.Omega.{arith}
+use lib.Dec.{ltb}
+use lib.ListN.{length, take, length-take}
+use borrow.Author.Tests.{lt-ltb}
+use Rattle.bounded.specs.Bounded.{any, lastBelow}
+use Rattle.bounded.proofs.Tests.{clash, fails, both, eq-or-not}
+use Rattle.bounded.proofs.Search.{last-of, last-none}
+use Rattle.register.specs.declared.Settings.{Settings}
+use Rattle.register.specs.Machine.{Machine, machine}
+use Rattle.slices.specs.declared.TestSlice.{TestSlice}
+use Rattle.slices.specs.Slices.{paired, badSlice, badSlices}
+use Rattle.slices.proofs.Causes.{slices-equal}
+use Rattle.slices.proofs.Formed.{slices-all, slices-take, paired-take}
+use Rattle.search.specs.declared.Found.{Found}
+use Rattle.search.specs.declared.Found.the-variants.{State, Nothing}
+use Rattle.search.specs.declared.Pattern.{Pattern}
+use Rattle.search.specs.Search.{foundOf}
+use Rattle.covering.specs.Covering.{seedOf}
+use Rattle.covering.specs.Windows.{found}
+use Rattle.window.specs.Ready.{Ready}
+use Rattle.window.specs.Longest.{closesAt, seedFor, longest, reachOf}
+use Rattle.window.specs.Code.{allMeet, Unmet}
+use Rattle.window.specs.declared.Window.{Window}
+use Rattle.window.proofs.Fitting.{long-enough}
+use Rattle.window.proofs.Seeds.{unmet}
+
+pub state-some : (o : Option ℕ) (s : ℕ) → foundOf o ≡ State s → o ≡ some s
+state-some none s e = absurd (let z : _≡_ {A = ℕ} 0 1 = cc in omega arith)
+state-some (some t) s e = ap some (let q : t ≡ s = cc in q)
+
+pub nothing-none : (o : Option ℕ) → foundOf o ≡ Nothing → o ≡ none
+nothing-none none e = refl
+nothing-none (some t) e = absurd (let z : _≡_ {A = ℕ} 0 1 = cc in omega arith)
+
+module _ (M : Machine) (stop : TestSlice) (closing : Bool) (w : List TestSlice) where
+  pub record Passed (k : ℕ) : Type 0 where
+    pub within : k ≤ length w
+    pub longer : (j : ℕ) → k < j → j ≤ length w → seedFor M stop closing w j ≡ none
+
+  pub passed-next : (k : ℕ) → 0 < k → Passed k → seedFor M stop closing w k ≡ none → Passed (k - 1)
+  passed-next k h p e = record {
+    within = omega (arith, p .within);
+    longer = λ j l m. ⊎-elim (λ q. subst (λ (i : ℕ). seedFor M stop closing w i ≡ none) (sym q) e) (λ n. p .longer j (omega arith) m) (eq-or-not j k);
+  }
+
+  abbrev test : ℕ → Bool
+  test k = ltb 0 k && found (seedFor M stop closing w k)
+
+  no-seed : (k : ℕ) → seedFor M stop closing w k ≡ none → test k ≡ false
+  no-seed k e = fails (test k) (λ t. clash (found (seedFor M stop closing w k)) (both (ltb 0 k) _ t .1) (ap found e))
+
+  pub reach-found : (k s : ℕ) → 0 < k → Passed k → seedFor M stop closing w k ≡ some s → record { slices = k; seed = s } ≡ reachOf M stop closing w
+  unfolding reachOf longest
+  reach-found k s h p e =
+      let l : longest M stop closing w ≡ some k = last-of test (suc (length w)) k (omega (arith, p .within)) (rw (lt-ltb 0 k h, e)) (λ j a b. no-seed j (p .longer j a (omega arith))) in
+      rw (l, reachOf, e)
+
+  pub reach-none : (k : ℕ) → k ≤ 0 → Passed k → record { slices = 0; seed = 0 } ≡ reachOf M stop closing w
+  unfolding reachOf longest
+  reach-none k h p =
+      let l : longest M stop closing w ≡ none = last-none test (suc (length w)) none-at in
+      rw (l, reachOf)
+    where
+      none-at : (j : ℕ) → j < suc (length w) → test j ≡ false
+      none-at zero b = refl
+      none-at (suc j) b = no-seed (suc j) (p .longer (suc j) (omega arith) (omega arith))
+
+-- ---- the loop's start, and the length that it tries
+
+module _ (g : Settings) (masks : List ℕ) (stop : TestSlice) (p : Pattern) (table clauses ps bs : List ℕ)
+    (r : Ready g masks stop p table clauses (suc (length ps))) (b : badSlices (length masks) ps bs ≡ false) (closing : Bool) where
+  abbrev M : Machine
+  M = machine g masks
+
+  abbrev w : List TestSlice
+  w = paired ps bs
+
+  long : length w ≡ length ps
+  long = long-enough (length masks) ps bs b
+
+  pub passed-start : (k : ℕ) → Unmet (length masks) table w (g .cells) k → Passed M stop closing w k
+  unfolding seedFor
+  passed-start k u = record {
+    within = u .within;
+    longer = λ j l m.
+        unmet g masks stop p table clauses (suc (length ps)) (take j w) r (omega (arith, long, length-take j w))
+        (rw (sym (paired-take j ps bs)) (slices-all (length masks) (take j ps) (take j bs) (slices-take (length masks) j ps bs b)))
+        (closesAt closing w j) (λ s h. u .more j s l m h);
+  }
+
+  pub tried : (k : ℕ) (closes : Bool) → closes ≡ (closing || ltb k (length ps)) → seedOf M stop closes (paired (take k ps) (take k bs)) ≡ seedFor M stop closing w k
+  unfolding seedFor
+  tried k closes e = ap₂ (seedOf M stop) (e ∙ rw (sym long)) (paired-take k ps bs)

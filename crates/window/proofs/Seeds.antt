@@ -1,0 +1,132 @@
+-- The seed of a window, from the space that its bits and its closing stop allow.
+--     ready-fewer      tables of more rows serve fewer
+--     states-sound, states-complete, states-rising     the space of all states
+--     seed-none        nothing is allowed: no state covers
+--     seed-lowest      otherwise the seed is the lowest clear member
+--     unmet            nor is there a seed where no state meets the slices
+--     unmet-more       how many slices can be met together
+-- Assumes nothing.
+use mathlib.Core.Path.{_≡_, refl, sym, ap, _∙_, subst}
+use mathlib.Core.Bool.{Bool, true, false, not, _&&_, _||_}
+use mathlib.Core.Option.{none}
+use mathlib.Core.List.{List}
+use Prim.Native.Nat.{ℕ, suc, _+_, _*_, _%_, _^_, _≤_, _<_}
+use native.Mathlib.Nat.{mul-le-mul-right, lt-of-lt-of-le}
+use native.Mathlib.Omega.{arith}
+use lib.ListN.{length, take}
+use lib.Pow.{pow-mono}
+use Rattle.bounded.specs.Bounded.{any, leastBelow}
+use Rattle.bounded.proofs.Tests.{clash, fails, both, and-yes}
+use Rattle.bounded.proofs.Search.{none-of, least-same}
+use Rattle.register.specs.declared.Settings.{Settings}
+use Rattle.register.specs.Machine.{Machine, machine}
+use Rattle.register.proofs.Causes.{cells-within}
+use Rattle.slices.specs.declared.TestSlice.{TestSlice}
+use Rattle.slices.specs.Slices.{badSlice}
+use Rattle.space.specs.declared.Space.{Space}
+use Rattle.space.specs.Space.{among, units, Rising}
+use Rattle.space.proofs.Members.{among-is, is-among}
+use Rattle.space.proofs.AllStates.{units-take, units-sound, units-complete, units-rising}
+use Rattle.search.specs.declared.Pattern.{Pattern}
+use Rattle.search.specs.Clauses.{clear}
+use Rattle.search.specs.Search.{foundOf, lowestClear}
+use Rattle.covering.specs.Covering.{covers, seedOf}
+use Rattle.window.specs.Ready.{Tabled, Ready}
+use Rattle.window.specs.Code.{allMeet, allowed, allStates, Member, Cut, Fits, Unmet}
+use Rattle.window.specs.declared.Kept.{Kept}
+use Rattle.window.proofs.Covering.{covers-tables}
+
+tabled-fewer : (taps m n : ℕ) (masks table : List ℕ) → m ≤ n → Tabled taps n masks table → Tabled taps m masks table
+tabled-fewer taps m n masks table h t = record {
+  long = omega (arith, mul-le-mul-right {m = m} {n = n} (length masks) h, t .long);
+  rows = λ k l. t .rows k (lt-of-lt-of-le l h);
+}
+
+pub ready-fewer : (g : Settings) (masks : List ℕ) (stop : TestSlice) (p : Pattern) (table clauses : List ℕ) (m n : ℕ) → m ≤ n
+    → Ready g masks stop p table clauses n → Ready g masks stop p table clauses m
+ready-fewer g masks stop p table clauses m n h r = record {
+  register = r .register;
+  chains = r .chains;
+  stop = r .stop;
+  pattern = r .pattern;
+  table = tabled-fewer (g .taps) m n masks table h (r .table);
+  clauses = tabled-fewer (g .taps) m n _ clauses h (r .clauses);
+}
+
+-- ---- all states
+
+abbrev pub unitsOf : ℕ → List ℕ
+unitsOf cells = take cells (units 0 64)
+
+module _ (cells : ℕ) (few : cells ≤ 64) where
+  abbrev U : List ℕ
+  U = unitsOf cells
+
+  front : U ≡ units 0 cells
+  front = units-take cells 64 0 few
+
+  pub states-sound : (s : ℕ) → Member (allStates cells) U s → s < 2 ^ cells
+  states-sound s m =
+      let z : 0 + cells ≡ cells = omega arith in
+      subst (λ (n : ℕ). s < 2 ^ n) z (units-sound cells 0 0 s (omega arith) (among-is (units 0 cells) 0 s (rw front at (m .1))))
+
+  pub states-complete : (s : ℕ) → s < 2 ^ cells → Member (allStates cells) U s
+  states-complete s h =
+      let z : cells ≡ 0 + cells = omega arith in
+      let e : s % 2 ^ 0 ≡ 0 = omega arith in
+      (refl, rw front (is-among (units 0 cells) 0 s (rw e at (units-complete cells 0 s (subst (λ (n : ℕ). s < 2 ^ n) z h)))))
+
+  pub states-rising : Rising 0 0 U
+  states-rising = rw front (units-rising cells 0)
+
+-- ---- the seed
+
+module _ (g : Settings) (masks : List ℕ) (stop : TestSlice) (p : Pattern) (table clauses : List ℕ) (n : ℕ) (w : List TestSlice)
+    (r : Ready g masks stop p table clauses n) (h : length w < n) (f : any (badSlice (length masks)) w ≡ false) where
+  abbrev M : Machine
+  M = machine g masks
+
+  abbrev c : ℕ
+  c = length masks
+
+  few : g .cells ≤ 64
+  few = cells-within (g .cells) (g .taps) (r .register) .1
+
+  table-covers : (closing : Bool) (s : ℕ) → covers M stop closing w s ≡ (allowed c table stop closing w s && clear p clauses (length w) s)
+  table-covers closing s = covers-tables g masks stop p table clauses n r w closing s h f
+
+  module _ (closing : Bool) (y : Space) (vs : List ℕ) (cut : Cut (allowed c table stop closing w) (allStates (g .cells)) (unitsOf (g .cells)) y vs) where
+    pub seed-none : y .some ≡ false → seedOf M stop closing w ≡ none
+    unfolding seedOf
+    seed-none e = none-of (covers M stop closing w) (2 ^ g .cells) (λ s l.
+        fails (covers M stop closing w s) (λ t.
+        let a = both (allowed c table stop closing w s) (clear p clauses (length w) s) (sym (table-covers closing s) ∙ t) in
+        clash (y .some) (cut .complete s (states-complete (g .cells) few s l) (a .0) .0) e))
+
+    pub seed-lowest : y .some ≡ true → lowestClear p clauses (length w) (y .lowest) vs ≡ foundOf (seedOf M stop closing w)
+    unfolding seedOf lowestClear
+    seed-lowest e = ap foundOf (least-same (λ s. among (y .lowest) vs s && clear p clauses (length w) s) (covers M stop closing w) (2 ^ 64) (2 ^ g .cells)
+        (λ s l t.
+        let a = both (among (y .lowest) vs s) (clear p clauses (length w) s) t in
+        let m = cut .sound s (e, a .0) in
+        (states-sound (g .cells) few s (m .0), table-covers closing s ∙ and-yes (allowed c table stop closing w s) (clear p clauses (length w) s) (m .1) (a .1)))
+        (λ s l t.
+        let a = both (allowed c table stop closing w s) (clear p clauses (length w) s) (sym (table-covers closing s) ∙ t) in
+        (
+          lt-of-lt-of-le l (pow-mono {i = g .cells} {j = 64} few),
+          and-yes (among (y .lowest) vs s) (clear p clauses (length w) s) (cut .complete s (states-complete (g .cells) few s l) (a .0) .1) (a .1),
+        )))
+
+  -- who covers a window meets its slices
+  pub unmet : (closing : Bool) → ((s : ℕ) → s < 2 ^ g .cells → allMeet c table 0 w s ≡ false) → seedOf M stop closing w ≡ none
+  unfolding seedOf allowed
+  unmet closing u = none-of (covers M stop closing w) (2 ^ g .cells) (λ s l.
+      fails (covers M stop closing w s) (λ t.
+      let a = both (allowed c table stop closing w s) (clear p clauses (length w) s) (sym (table-covers closing s) ∙ t) in
+      clash (allMeet c table 0 w s) (both (allMeet c table 0 w s) _ (a .0) .0) (u s l)))
+
+pub unmet-more : (cells : ℕ) → cells ≤ 64 → (c : ℕ) (table : List ℕ) (w : List TestSlice) (r : Kept) (vs : List ℕ) → Fits c table w (allStates cells) (unitsOf cells) r vs → Unmet c table w cells (r .slices)
+unmet-more cells few c table w r vs f = record {
+  within = f .within;
+  more = λ j s l m h. f .more j s l m (states-complete cells few s h);
+}
