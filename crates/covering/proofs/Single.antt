@@ -1,4 +1,6 @@
--- The answer for a window given singly means what it says (window-means).
+-- The answer for a window given singly.
+--     window-refused, window-well     by the checks: refused, or the seed of the window
+--     window-means, window-answer     it means what it says
 -- Assumes nothing.
 use mathlib.Core.Path.{_≡_, refl, sym, _∙_}
 use mathlib.Core.Logic.{_↔_, _⊎_, inl, inr}
@@ -21,6 +23,7 @@ use Rattle.checks.specs.Calls.{windowFaults}
 use Rattle.checks.specs.declared.Verdict.the-variants as verdict
 use Rattle.covering.specs.Covering.{covers, seedOf}
 use Rattle.covering.specs.Single.{lowestOr7, windowSeed, WindowMeaning}
+use Rattle.covering.specs.declared.Seed.{Seed}
 use Rattle.covering.specs.declared.Seed.the-variants.{Lowest, Refused}
 
 answer-cases : (o : Option ℕ) → ((s : ℕ) × (lowestOr7 o ≡ Lowest s)) ⊎ (lowestOr7 o ≡ Refused cause.NoSeed)
@@ -46,18 +49,27 @@ module _ (g : Settings) (masks : List ℕ) (stop : TestSlice) (specified bits : 
   abbrev p : ℕ → Bool
   p = covers (machine g masks) stop true (paired specified bits)
 
-  well : judged (windowFaults g masks stop specified bits) ≡ verdict.WellFormed → windowSeed g masks stop specified bits ≡ lowestOr7 (leastBelow p (2 ^ g .cells))
-  unfolding windowSeed seedOf
-  well w = rw (w, windowSeed)
-
-  refusal : (c : Cause) → judged (windowFaults g masks stop specified bits) ≡ verdict.Refused c → windowSeed g masks stop specified bits ≡ Refused c
+  pub window-well : judged (windowFaults g masks stop specified bits) ≡ verdict.WellFormed
+      → windowSeed g masks stop specified bits ≡ lowestOr7 (seedOf (machine g masks) stop true (paired specified bits))
   unfolding windowSeed
-  refusal c w = rw (w, windowSeed)
+  window-well w = rw (w, windowSeed)
+
+  least : judged (windowFaults g masks stop specified bits) ≡ verdict.WellFormed → windowSeed g masks stop specified bits ≡ lowestOr7 (leastBelow p (2 ^ g .cells))
+  unfolding seedOf
+  least w = window-well w
+
+  pub window-refused : (c : Cause) → judged (windowFaults g masks stop specified bits) ≡ verdict.Refused c → windowSeed g masks stop specified bits ≡ Refused c
+  unfolding windowSeed
+  window-refused c w = rw (w, windowSeed)
 
   pub window-means : WindowMeaning g masks stop specified bits (windowSeed g masks stop specified bits)
   window-means = record {
-    refused = refusal;
-    answered = λ w. rw (well w) (answer-cases (leastBelow p (2 ^ g .cells)));
-    lowest = λ w s e. answer-lowest p (2 ^ g .cells) (leastBelow p (2 ^ g .cells)) (least-is p (2 ^ g .cells)) s (sym (well w) ∙ e);
-    none = λ w. rw (well w) (answer-none p (2 ^ g .cells) (leastBelow p (2 ^ g .cells)) (least-is p (2 ^ g .cells)));
+    refused = window-refused;
+    answered = λ w. rw (least w) (answer-cases (leastBelow p (2 ^ g .cells)));
+    lowest = λ w s e. answer-lowest p (2 ^ g .cells) (leastBelow p (2 ^ g .cells)) (least-is p (2 ^ g .cells)) s (sym (least w) ∙ e);
+    none = λ w. rw (least w) (answer-none p (2 ^ g .cells) (leastBelow p (2 ^ g .cells)) (least-is p (2 ^ g .cells)));
   }
+
+  -- an answer that is the definition's, with its meaning
+  pub window-answer : (r : Seed) → r ≡ windowSeed g masks stop specified bits → (r ≡ windowSeed g masks stop specified bits) × WindowMeaning g masks stop specified bits r
+  window-answer r e = (e, rw e window-means)

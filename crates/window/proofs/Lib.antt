@@ -6,3 +6,4 @@ pub mod Fitting
 pub mod Covering
 pub mod Seeds
 pub mod Reaching
+pub mod Calls

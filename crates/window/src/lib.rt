@@ -289,7 +289,7 @@ fn seed_of(
     specified: &[u64],
     bits: &[u64],
 ) -> Seed
-    requires { ⌜ (judged (windowFaults settings (now masks) stop (now specified) (now bits)) ≡ verdict.WellFormed) × (settings .limit ≡ 256) ⌝ }
+    requires { ⌜ (judged (windowFaults settings (now masks) stop (now specified) (now bits)) ≡ verdict.WellFormed) × (settings .limit ≤ 256) ⌝ }
     ensures { λ r. ⌜ r ≡ lowestOr7 (seedOf (machine settings (now (masks .entry))) stop true (paired (now (specified .entry)) (now (bits .entry)))) ⌝ }
 {
     let mut table = [0u64; MOST_ENTRIES];

@@ -1,0 +1,76 @@
+use Prim.Native.Nat.{_≤_}
+use Rattle.register.specs.declared.Settings.{Settings}
+use Rattle.checks.specs.Order.{judged}
+use Rattle.checks.specs.Calls.{windowFaults}
+use Rattle.checks.specs.declared.Verdict.the-variants as verdict
+use Rattle.covering.proofs.Single.{window-answer}
+use mathlib.Core.Path.{_≡_, refl, sym, ap, _∙_, subst}
+use native.Mathlib.Omega.{arith}
+use Rattle.register.specs.Machine.{base}
+use Rattle.covering.specs.declared.Seed.{Seed}
+use Rattle.covering.specs.Single.{windowSeed, WindowMeaning}
+use Rattle.covering.proofs.Single.{window-well, window-refused, window-means}
+use borrow.Author.Needs.{needs}
+use Rattle.window.proofs.window_seed.Statement.{statement}
+use Rattle.window.proofs.window_seed.Tie as tie
+use Rattle.window.proofs.window_seed.Reads as reads
+use Rattle.window.proofs.window_seed.Lts as lts
+use Rattle.checks.proofs.check_window.Reads as check-window-reads
+use Rattle.register.proofs.base.Reads as base-reads
+use Rattle.window.proofs.seed_of.Reads as seed-of-reads
+
+-- src/lib.rt:319:9
+base-requires : tie.Need-base-requires
+base-requires c κs = search needs
+
+-- src/lib.rt:320:9
+check-window-requires : tie.Need-check-window-requires
+check-window-requires c κs = search needs
+
+-- src/lib.rt:322:26
+enum-known-verdict : tie.Need-enum-known-verdict
+enum-known-verdict c = search needs
+
+-- src/lib.rt:323:32
+enum-told : tie.Need-enum-told
+enum-told c = search needs
+
+-- src/lib.rt:323:32
+seed-of-requires : tie.Need-seed-of-requires
+seed-of-requires c κs =
+    let b = c .before .before .before .base in
+    let k = c .before .before .check-window in
+    let l = ap (λ (g : Settings). g .limit) (b .ensures) in
+    (sym (k .ensures) ∙ c .enum-told .given .1, omega (arith, l))
+
+-- src/lib.rt:308:1
+returns : tie.Need-returns
+returns c =
+    let a = c .before .before .before .before .before .before .before .before .args in
+    let b = c .before .before .before .before .base in
+    let k = c .before .before .before .check-window in
+    let q = rw (b .ensures) at (sym (k .ensures) ∙ c .before .verdict .given .1) in
+    window-answer (base (a .cells) (a .taps)) (a .masks .now) (a .stop) (a .specified .now) (a .bits .now) _
+    (sym (window-refused (base (a .cells) (a .taps)) (a .masks .now) (a .stop) (a .specified .now) (a .bits .now) _ q))
+
+-- src/lib.rt:308:1
+returns-2 : tie.Need-returns-2
+returns-2 c =
+    let a = c .before .before .before .before .before .before .before .before .args in
+    let b = c .before .before .before .before .base in
+    let k = c .before .before .before .check-window in
+    let q : judged (windowFaults (base (a .cells) (a .taps)) (a .masks .now) (a .stop) (a .specified .now) (a .bits .now)) ≡ verdict.WellFormed = rw (b .ensures) at (sym (k .ensures) ∙ c .before .enum-told .given .1) in
+    window-answer (base (a .cells) (a .taps)) (a .masks .now) (a .stop) (a .specified .now) (a .bits .now) (c .seed-of .result)
+    ((rw (b .ensures) at (c .seed-of .ensures)) ∙ sym (window-well (base (a .cells) (a .taps)) (a .masks .now) (a .stop) (a .specified .now) (a .bits .now) q))
+
+pub window-seed-spec : {M : Type 1} → statement M
+window-seed-spec =
+    tie.close
+    (tie.spec
+    base-requires
+    check-window-requires
+    enum-known-verdict
+    enum-told
+    seed-of-requires
+    returns
+    returns-2)
