@@ -1,6 +1,7 @@
 -- Laws of the places of windows.
 --     far-mono, far-le       the farthest end rises with the start and stays within the set
 --     placed-parts, parts-placed     what a placed window is
+--     far-rules              in the base: the end of the set or the limit
 --     placed-base            in the base: 1 to 256 slices, within the set
 --     suffix-placed          the rest of a placed window is placed
 --     part-cons              the first slice of a part, and the rest
@@ -17,6 +18,7 @@ use lib.Seq.{drop-cons}
 use borrow.Author.Tests.{ltb-true, ltb-false, leb-true, lt-ltb, le-leb}
 use Rattle.bounded.proofs.Tests.{both, and-yes}
 use Rattle.cutting.specs.Meaning.{Suffix}
+use Rattle.register.specs.declared.Settings.{Settings}
 use Rattle.register.specs.Machine.{base}
 use Rattle.slices.specs.declared.TestSlice.{TestSlice}
 use Rattle.covering.specs.Rules.{Rules, rules}
@@ -60,6 +62,10 @@ placed-parts R n i k t =
 pub parts-placed : (R : Rules) (n i k : ℕ) → i < k → k ≤ far R n i → placed R n i k ≡ true
 unfolding placed
 parts-placed R n i k a b = and-yes (ltb i k) (leb k (far R n i)) (lt-ltb i k a) (le-leb k (far R n i) b)
+
+pub far-rules : (g : Settings) (stop : TestSlice) (n i : ℕ) → far (rules g stop) n i ≡ min n (i + g .limit)
+unfolding far before
+far-rules g stop n i = refl
 
 pub placed-base : (cells taps : ℕ) (stop : TestSlice) (n i k : ℕ) → (placed (rules (base cells taps) stop) n i k ≡ true) ↔ ((i < k) × (k ≤ n) × (k ≤ i + 256))
 unfolding far before

@@ -1,6 +1,7 @@
 -- The whole call with the stop slice handed in means what it says.
 --     list-formed      the list of an encoded set is well-formed in expanding
---     set-means        the outcome of the call
+--     set-refused, set-well     the outcome of the call, by the checks
+--     set-means, set-outcome    it means what it says
 -- Assumes nothing.
 use mathlib.Core.Path.{_≡_, refl, sym, _∙_}
 use mathlib.Core.List.{List, _++_}
@@ -10,6 +11,7 @@ use lib.ListN.{length, take, drop}
 use lib.Seq.{take-at}
 use borrow.Author.Tests.{le-ltb}
 use Rattle.causes.specs.declared.Cause.{Cause}
+use Rattle.causes.specs.declared.Written.{Written}
 use Rattle.causes.specs.Outcome.{refuse}
 use Rattle.register.specs.declared.Settings.{Settings}
 use Rattle.register.specs.Machine.{Machine, machine}
@@ -86,23 +88,29 @@ module _ (g : Settings) (masks : List ℕ) (stop : TestSlice) (specified bits : 
       record { slices = d .slices; accepted = λ out. expands-back w seeds out l ∙ d .accepted out; whole = d .whole; agree = d .agree }
 
   module _ (out : List ℕ) where
-    well : verdict-of ≡ verdict.WellFormed → encodeSet g masks stop specified bits out ≡ encoding M R set out
+    pub set-well : verdict-of ≡ verdict.WellFormed → encodeSet g masks stop specified bits out ≡ encoding M R set out
     unfolding encodeSet
-    well w = rw (w, encodeSet)
+    set-well w = rw (w, encodeSet)
 
-    refusal : (c : Cause) → verdict-of ≡ verdict.Refused c → encodeSet g masks stop specified bits out ≡ refuse c out
+    pub set-refused : (c : Cause) → verdict-of ≡ verdict.Refused c → encodeSet g masks stop specified bits out ≡ refuse c out
     unfolding encodeSet
-    refusal c w = rw (w, encodeSet)
+    set-refused c w = rw (w, encodeSet)
 
     means : verdict-of ≡ verdict.WellFormed → Meaning M R set out (encodeSet g masks stop specified bits out)
-    means w = rw (well w) (encoding-means M R set out (λ s h. step-below (g .cells) (g .taps) s) (rules-steady g stop (length set)))
+    means w = rw (set-well w) (encoding-means M R set out (λ s h. step-below (g .cells) (g .taps) s) (rules-steady g stop (length set)))
 
     front : (n : ℕ) (l : Listed M R set n) (buffer : List ℕ) → buffer ≡ l .seeds ++ drop n out → l .seeds ≡ take n buffer
     front n l buffer e = rw e (sym (take-at (l .seeds) (drop n out) n (l .count)))
 
     pub set-means : SetMeaning g masks stop specified bits out (encodeSet g masks stop specified bits out)
     set-means = record {
-      refused = refusal;
+      refused = set-refused;
       meaning = means;
       delivers = λ n w e. (let a = means w .accepted n e in rw (sym (front n (a .0) _ (a .1))) (list-back w (a .0 .seeds) (a .0 .shortest)));
     }
+
+    -- an outcome that is the definition's, with its meaning
+    pub set-outcome : (answer : Written) (buffer : List ℕ) → answer ≡ encodeSet g masks stop specified bits out .answer → buffer ≡ encodeSet g masks stop specified bits out .buffer
+        → (answer ≡ encodeSet g masks stop specified bits out .answer)
+        × ((buffer ≡ encodeSet g masks stop specified bits out .buffer) × SetMeaning g masks stop specified bits out (record { answer = answer; buffer = buffer }))
+    set-outcome answer buffer e q = (e, (q, rw (e, q) set-means))

@@ -2,3 +2,9 @@
 pub mod Seeds
 pub mod Meaning
 pub mod Calls
+pub mod Reaching
+pub mod Gathering
+pub mod Starts
+pub mod Settling
+pub mod Formed
+pub mod Cubes

@@ -4,7 +4,8 @@
 --     encoding M R set out        the answer and the buffer that the encoding of a set leaves, by its greedy cutting
 --     encodeSet g masks stop specified bits out     the same of the whole call, with the stop slice handed in
 --     CubesOutcome, stopped, withStop      an answer that carries the stop slice too
---     encodeCubes g masks depth specified bits out     the same of the whole call for cubes of depth slices, with the stop slice of the steps
+--     cubesEncoding g masks specified bits out     the same with the stop slice of the steps, or cause 6
+--     encodeCubes g masks depth specified bits out     the same of the whole call for cubes of depth slices
 use mathlib.Core.Option.{none, some, Option·getD}
 use mathlib.Core.List.{List, [], _∷_}
 use Prim.Native.Nat.{ℕ}
@@ -55,11 +56,14 @@ stopped stop (written.Refused c) = Refused c
 unfoldable pub withStop : TestSlice → Outcome → CubesOutcome
 withStop stop o = record { answer = stopped stop (o .answer); buffer = o .buffer }
 
+unfoldable pub cubesEncoding : Settings → List ℕ → List ℕ → List ℕ → List ℕ → CubesOutcome
+cubesEncoding g masks specified bits out = elim (stopFor (length masks) (paired specified bits)) [
+  | none ↦ record { answer = Refused cause.SlicesIn; buffer = out }
+  | some stop ↦ withStop stop (encoding (machine g masks) (rules g stop) (paired specified bits) out)
+]
+
 unfoldable pub encodeCubes : Settings → List ℕ → ℕ → List ℕ → List ℕ → List ℕ → CubesOutcome
 encodeCubes g masks depth specified bits out = elim (judged (cubesFaults g masks depth specified bits)) [
   | verdict.Refused c ↦ record { answer = Refused c; buffer = out }
-  | verdict.WellFormed ↦ elim (stopFor (length masks) (paired specified bits)) [
-    | none ↦ record { answer = Refused cause.SlicesIn; buffer = out }
-    | some stop ↦ withStop stop (encoding (machine g masks) (rules g stop) (paired specified bits) out)
-  ]
+  | verdict.WellFormed ↦ cubesEncoding g masks specified bits out
 ]

@@ -4,11 +4,13 @@
 --     Uncut M R set g            the set has no cutting, and its longest start that can be cut has g slices
 --     Listed M R set n           the list that enough space gives has n seeds
 --     Meaning M R set out o      what the outcome o says of the set
---     SetMeaning .. o            what the outcome o of the whole call says
+--     SetMeaning .. o            what the outcome o of the whole call says, with the stop slice handed in
+--     StoppedMeaning, CubesMeaning .. o     what the outcome o of the whole call says, for cubes with the stop slice of the steps
 use mathlib.Core.Path.{_≡_}
 use mathlib.Core.Logic.{_↔_, _⊎_}
 use mathlib.Core.Bool.{true}
 use mathlib.Core.List.{List, _++_}
+use mathlib.Core.Option.{none, some}
 use Prim.Native.Nat.{ℕ, _≤_, _<_}
 use lib.ListN.{length, getD, take, drop}
 use Rattle.causes.specs.declared.Cause.{Cause}
@@ -23,9 +25,13 @@ use Rattle.register.specs.declared.Settings.{Settings}
 use Rattle.register.specs.Machine.{Machine, machine}
 use Rattle.slices.specs.Slices.{agrees, paired}
 use Rattle.checks.specs.Order.{judged}
-use Rattle.checks.specs.Calls.{setFaults}
+use Rattle.checks.specs.Calls.{setFaults, cubesFaults}
 use Rattle.checks.specs.declared.Verdict.the-variants as verdict
+use Rattle.stop.specs.Steps.{stopFor}
+use Rattle.stop.specs.Meaning.{StopMeaning, SixMeaning}
 use Rattle.expander.specs.Expanding.{expandList}
+use Rattle.encoder.specs.Encoding.{CubesOutcome, withStop}
+use Rattle.encoder.specs.declared.Encoded.the-variants as encoded
 
 pub record Delivers (set : List TestSlice) (expanded : List ℕ → Outcome) : Type 0 where
   pub slices : List ℕ
@@ -68,3 +74,19 @@ pub record SetMeaning (g : Settings) (masks : List ℕ) (stop : TestSlice) (spec
   pub meaning : judged (setFaults g masks stop specified bits) ≡ verdict.WellFormed → Meaning (machine g masks) (rules g stop) (paired specified bits) out o
   pub delivers : (n : ℕ) → judged (setFaults g masks stop specified bits) ≡ verdict.WellFormed → o .answer ≡ Count n
       → Delivers (paired specified bits) (expandList g masks stop (length specified) (take n (o .buffer)))
+
+-- What the call for cubes makes of a stop slice that the steps give: it is the call with that stop slice handed in, which is then well-formed, and hands it back.
+pub record StoppedMeaning (g : Settings) (masks : List ℕ) (specified bits out : List ℕ) (stop : TestSlice) (o : CubesOutcome) : Type 0 where
+  pub steps : StopMeaning (length masks) (paired specified bits) stop
+  pub formed : judged (setFaults g masks stop specified bits) ≡ verdict.WellFormed
+  pub handed : Outcome
+  pub outcome : o ≡ withStop stop handed
+  pub meaning : SetMeaning g masks stop specified bits out handed
+
+-- The call for cubes: the first of causes 1 to 4 that holds; then 6 exactly where the steps end with slices in; otherwise the stop slice of the steps and what the encoding means.
+pub record CubesMeaning (g : Settings) (masks : List ℕ) (depth : ℕ) (specified bits out : List ℕ) (o : CubesOutcome) : Type 0 where
+  pub refused : (c : Cause) → judged (cubesFaults g masks depth specified bits) ≡ verdict.Refused c → o ≡ record { answer = encoded.Refused c; buffer = out }
+  pub unstopped : judged (cubesFaults g masks depth specified bits) ≡ verdict.WellFormed → stopFor (length masks) (paired specified bits) ≡ none
+      → (o ≡ record { answer = encoded.Refused cause.SlicesIn; buffer = out }) × SixMeaning (length masks) (paired specified bits)
+  pub stopped : judged (cubesFaults g masks depth specified bits) ≡ verdict.WellFormed → (stop : TestSlice) → stopFor (length masks) (paired specified bits) ≡ some stop
+      → StoppedMeaning g masks specified bits out stop o

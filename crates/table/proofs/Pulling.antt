@@ -1,6 +1,5 @@
 -- Laws of pulled-back masks and of the rows of a table.
 --     pull-even, pull-odd     a mask pulled back, by its lowest cell
---     getD-front       an entry of the first of two lists
 --     rows-length      so many rows of so many masks
 --     rows-row         row t is the masks pulled back through t steps
 --     rows-first, rows-next     an entry of the first row; an entry below another is that one pulled back
@@ -41,7 +40,7 @@ getD-map f [] i h = absurd (omega arith)
 getD-map f (x ∷ l) zero h = refl
 getD-map f (x ∷ l) (suc i) h = getD-map f l i (omega arith)
 
-pub getD-front : (l m : List ℕ) (i : ℕ) → i < length l → getD (l ++ m) i 0 ≡ getD l i 0
+getD-front : (l m : List ℕ) (i : ℕ) → i < length l → getD (l ++ m) i 0 ≡ getD l i 0
 getD-front [] m i h = absurd (omega arith)
 getD-front (x ∷ l) m zero h = refl
 getD-front (x ∷ l) m (suc i) h = getD-front l m i (omega arith)

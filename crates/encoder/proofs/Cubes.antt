@@ -1,0 +1,122 @@
+-- The whole call for cubes, with the stop slice of the steps.
+--     steps-refused, steps-stop     what the call for the stop slice says of the steps
+--     cubes-unstopped, cubes-stopped     the encoding of well-formed cubes, by the steps
+--     cubes-refused, cubes-well     the outcome of the call, by the checks
+--     cubes-means, cubes-outcome    it means what it says
+-- Assumes nothing.
+use mathlib.Core.Path.{_≡_, refl, sym, ap, _∙_, subst}
+use mathlib.Core.Bool.{false}
+use mathlib.Core.Option.{Option, none, some}
+use mathlib.Core.List.{List}
+use Prim.Native.Nat.{ℕ}
+use native.Mathlib.Omega.{arith}
+use lib.ListN.{length}
+use Rattle.causes.specs.declared.Cause.{Cause}
+use Rattle.causes.specs.declared.Cause.the-variants as cause
+use Rattle.causes.specs.Outcome.{Outcome}
+use Rattle.register.specs.declared.Settings.{Settings}
+use Rattle.register.specs.Machine.{machine}
+use Rattle.slices.specs.declared.TestSlice.{TestSlice}
+use Rattle.slices.specs.Slices.{paired}
+use Rattle.checks.specs.Order.{judged}
+use Rattle.checks.specs.Calls.{setFaults, cubesFaults, stopFaults}
+use Rattle.checks.specs.declared.Verdict.{Verdict}
+use Rattle.checks.specs.declared.Verdict.the-variants as verdict
+use Rattle.stop.specs.Steps.{stopFor}
+use Rattle.stop.specs.Entry.{stopOr6, stopOf}
+use Rattle.stop.specs.Meaning.{StopMeaning, SixMeaning}
+use Rattle.stop.specs.declared.Formed.the-variants as formed
+use Rattle.stop.proofs.Calls.{call-formed, formed-means, refused-means}
+use Rattle.covering.specs.Rules.{rules}
+use Rattle.encoder.specs.Encoding.{encoding, encodeSet, CubesOutcome, withStop, cubesEncoding, encodeCubes}
+use Rattle.encoder.specs.Meaning.{SetMeaning, StoppedMeaning, CubesMeaning}
+use Rattle.encoder.specs.Code.{CubesFormed}
+use Rattle.encoder.specs.declared.Encoded.{Encoded}
+use Rattle.encoder.specs.declared.Encoded.the-variants.{Refused}
+use Rattle.encoder.proofs.Formed.{cubes-formed, cubes-stop, cubes-set}
+use Rattle.encoder.proofs.Calls.{set-well, set-means}
+
+module _ (g : Settings) (masks ps bs : List ℕ) where
+  abbrev set : List TestSlice
+  set = paired ps bs
+
+  abbrev c : ℕ
+  c = length masks
+
+  module _ (f : CubesFormed g masks ps bs) where
+    by-steps : stopOf c ps bs ≡ stopOr6 (stopFor c set)
+    by-steps = call-formed c ps bs (cubes-stop g masks ps bs f)
+
+    refused-only : (o : Option TestSlice) (k : Cause) → stopOr6 o ≡ formed.Refused k → (o ≡ none) × (k ≡ cause.SlicesIn)
+    unfolding stopOr6
+    refused-only none k e = (refl, let q : k ≡ cause.SlicesIn = cc in q)
+    refused-only (some s) k e = absurd (let z : _≡_ {A = ℕ} 0 1 = cc in omega arith)
+
+    stop-only : (o : Option TestSlice) (stop : TestSlice) → stopOr6 o ≡ formed.Stop stop → o ≡ some stop
+    unfolding stopOr6
+    stop-only none stop e = absurd (let z : _≡_ {A = ℕ} 0 1 = cc in omega arith)
+    stop-only (some s) stop e = ap some (let q : s ≡ stop = cc in q)
+
+    pub steps-refused : (k : Cause) → stopOf c ps bs ≡ formed.Refused k → (stopFor c set ≡ none) × (k ≡ cause.SlicesIn)
+    steps-refused k e = refused-only (stopFor c set) k (sym by-steps ∙ e)
+
+    pub steps-stop : (stop : TestSlice) → stopOf c ps bs ≡ formed.Stop stop → stopFor c set ≡ some stop
+    steps-stop stop e = stop-only (stopFor c set) stop (sym by-steps ∙ e)
+
+    -- the stop slice of the steps makes them a set
+    stop-meaning : (stop : TestSlice) → stopFor c set ≡ some stop → StopMeaning c set stop
+    unfolding stopOr6
+    stop-meaning stop e = formed-means c ps bs stop (by-steps ∙ rw e)
+
+    pub stop-set : (stop : TestSlice) → stopFor c set ≡ some stop → judged (setFaults g masks stop ps bs) ≡ verdict.WellFormed
+    stop-set stop e = cubes-set g masks ps bs f stop (stop-meaning stop e .formed)
+
+    six-meaning : stopFor c set ≡ none → SixMeaning c set
+    unfolding stopOr6
+    six-meaning e = refused-means c ps bs cause.SlicesIn (cubes-stop g masks ps bs f) (by-steps ∙ rw e)
+
+  module _ (out : List ℕ) where
+    pub cubes-unstopped : stopFor c set ≡ none → cubesEncoding g masks ps bs out ≡ record { answer = Refused cause.SlicesIn; buffer = out }
+    unfolding cubesEncoding
+    cubes-unstopped e = rw (e, cubesEncoding)
+
+    pub cubes-stopped : (stop : TestSlice) → stopFor c set ≡ some stop → cubesEncoding g masks ps bs out ≡ withStop stop (encoding (machine g masks) (rules g stop) set out)
+    unfolding cubesEncoding
+    cubes-stopped stop e = rw (e, cubesEncoding)
+
+    module _ (depth : ℕ) where
+      abbrev verdict-of : Verdict
+      verdict-of = judged (cubesFaults g masks depth ps bs)
+
+      pub cubes-refused : (k : Cause) → verdict-of ≡ verdict.Refused k → encodeCubes g masks depth ps bs out ≡ record { answer = Refused k; buffer = out }
+      unfolding encodeCubes
+      cubes-refused k w = rw (w, encodeCubes)
+
+      pub cubes-well : verdict-of ≡ verdict.WellFormed → encodeCubes g masks depth ps bs out ≡ cubesEncoding g masks ps bs out
+      unfolding encodeCubes
+      cubes-well w = rw (w, encodeCubes)
+
+      stopped : verdict-of ≡ verdict.WellFormed → (stop : TestSlice) → stopFor c set ≡ some stop → StoppedMeaning g masks ps bs out stop (encodeCubes g masks depth ps bs out)
+      stopped w stop e =
+          let f = cubes-formed g masks ps bs depth w in
+          let s = stop-set f stop e in
+          record {
+            steps = stop-meaning f stop e;
+            formed = s;
+            handed = encodeSet g masks stop ps bs out;
+            outcome = cubes-well w ∙ cubes-stopped stop e ∙ ap (withStop stop) (sym (set-well g masks stop ps bs out s));
+            meaning = set-means g masks stop ps bs out;
+          }
+
+      pub cubes-means : CubesMeaning g masks depth ps bs out (encodeCubes g masks depth ps bs out)
+      cubes-means = record {
+        refused = cubes-refused;
+        unstopped = λ w e. (cubes-well w ∙ cubes-unstopped e, six-meaning (cubes-formed g masks ps bs depth w) e);
+        stopped = stopped;
+      }
+
+      -- an outcome that is the definition's, with its meaning
+      pub cubes-outcome : (answer : Encoded) (buffer : List ℕ) → answer ≡ encodeCubes g masks depth ps bs out .answer → buffer ≡ encodeCubes g masks depth ps bs out .buffer
+          → (answer ≡ encodeCubes g masks depth ps bs out .answer)
+          × ((buffer ≡ encodeCubes g masks depth ps bs out .buffer) × CubesMeaning g masks depth ps bs out (record { answer = answer; buffer = buffer }))
+      cubes-outcome answer buffer e q = (e, (q, rw (e, q) cubes-means))

@@ -1,0 +1,98 @@
+-- The answer for the windows of a set.
+--     settled-stuck, settled-short, settled-whole     8, 9, or the seeds
+--     settled-encoding, gathered-held     the windows gathered and settled are the encoding of the set; the array holds their seeds
+-- Assumes nothing.
+use mathlib.Core.Path.{_≡_, refl, sym, ap, ap₂, _∙_, subst}
+use mathlib.Core.Logic.{⊎-elim}
+use mathlib.Core.Bool.{Bool, true, false}
+use mathlib.Core.List.{List, _++_}
+use Prim.Native.Nat.{ℕ, _+_, _≤_, _<_}
+use native.Mathlib.Omega.{arith}
+use lib.Dec.{ltb, leb, eqb}
+use lib.ListN.{length, take, drop, length-append}
+use lib.Seq.{length-take-le, take-at}
+use borrow.Author.Tests.{lt-ltb, le-ltb, le-leb, lt-leb, eq-eqb, ne-eqb, eqb-true, eqb-false}
+use Rattle.bounded.proofs.Tests.{eq-or-not}
+use Rattle.causes.specs.declared.Cause.the-variants as cause
+use Rattle.causes.specs.declared.Written.the-variants.{Count, Refused}
+use Rattle.causes.specs.Outcome.{Outcome, refuse, fill}
+use Rattle.register.specs.declared.Settings.{Settings}
+use Rattle.register.specs.Machine.{Machine, machine}
+use Rattle.slices.specs.declared.TestSlice.{TestSlice}
+use Rattle.cutting.specs.Greedy.{hop, ends, greedy}
+use Rattle.cutting.proofs.Hops.{hop-in}
+use Rattle.covering.specs.Rules.{Rules, rules}
+use Rattle.covering.specs.Windows.{ok}
+use Rattle.covering.proofs.Windows.{set-bounds}
+use Rattle.encoder.specs.Encoding.{seedsOf, planned, encoding}
+use Rattle.encoder.specs.Code.{gathered, gatheredSeeds, settled}
+use Rattle.encoder.specs.declared.Gathered.{Gathered}
+
+module _ (n : ℕ) (r : Gathered) (seeds out : List ℕ) where
+  pub settled-stuck : r .place < n → settled n r seeds out ≡ refuse (cause.NoCutting (r .place)) out
+  unfolding settled
+  settled-stuck h = rw (lt-ltb (r .place) n h, settled)
+
+  through : n ≤ r .place → settled n r seeds out ≡ fill (take (r .count) seeds) out
+  unfolding settled
+  through h = rw (le-ltb (r .place) n h, settled)
+
+  module _ (come : n ≤ r .place) (held : r .count ≤ length seeds) where
+    count : length (take (r .count) seeds) ≡ r .count
+    count = length-take-le (r .count) seeds held
+
+    pub settled-short : length out < r .count → settled n r seeds out ≡ refuse (cause.NoSpace (r .count)) out
+    unfolding fill
+    settled-short h =
+        let k : length out < length (take (r .count) seeds) = rw count h in
+        through come ∙ rw (lt-leb (length (take (r .count) seeds)) (length out) k, fill) (ap (λ (m : ℕ). refuse (cause.NoSpace m) out) count)
+
+    pub settled-whole : r .count ≤ length out → settled n r seeds out ≡ record { answer = Count (r .count); buffer = take (r .count) seeds ++ drop (r .count) out }
+    unfolding fill
+    settled-whole h =
+        let k : length (take (r .count) seeds) ≤ length out = rw count h in
+        let whole : ℕ → Outcome = λ m. record { answer = Count m; buffer = take (r .count) seeds ++ drop m out } in
+        through come ∙ rw (le-leb (length (take (r .count) seeds)) (length out) k, fill) (ap whole count)
+
+module _ (g : Settings) (masks : List ℕ) (stop : TestSlice) (set : List TestSlice) where
+  abbrev M : Machine
+  M = machine g masks
+
+  abbrev R : Rules
+  R = rules g stop
+
+  abbrev n : ℕ
+  n = length set
+
+  abbrev place : ℕ
+  place = hop (ok M R set) n n 0
+
+  abbrev S : List ℕ
+  S = seedsOf M R set 0 (ends (ok M R set) n n 0)
+
+  planned-done : place ≡ n → (out : List ℕ) → encoding M R set out ≡ fill S out
+  unfolding encoding greedy planned
+  planned-done e out = rw (eq-eqb place n e, greedy, encoding)
+
+  planned-stuck : (place ≡ n → ⊥) → (out : List ℕ) → encoding M R set out ≡ refuse (cause.NoCutting place) out
+  unfolding encoding greedy planned
+  planned-stuck ne out = rw (ne-eqb place n ne, greedy, encoding)
+
+  -- the windows gathered, settled
+  settled-gathered : (rest out : List ℕ) → settled n (gathered g masks stop set) (gatheredSeeds g masks stop set ++ rest) out ≡ encoding M R set out
+  unfolding gathered gatheredSeeds
+  settled-gathered rest out = ⊎-elim
+      (λ e.
+      through n (record { place = place; count = length S }) (S ++ rest) out (omega arith)
+      ∙ ap (λ (l : List ℕ). fill l out) (take-at S rest (length S) refl) ∙ sym (planned-done e out))
+      (λ ne. settled-stuck n (record { place = place; count = length S }) (S ++ rest) out (omega (arith, hop-in (ok M R set) n (set-bounds M R set) n 0 (omega arith))) ∙ sym (planned-stuck ne out))
+      (eq-or-not place n)
+
+  module _ (r : Gathered) (seeds rest : List ℕ) (e : r ≡ gathered g masks stop set) (q : seeds ≡ gatheredSeeds g masks stop set ++ rest) where
+    pub settled-encoding : (m : ℕ) (out : List ℕ) → n ≡ m → settled m r seeds out ≡ encoding M R set out
+    settled-encoding m out l = rw (sym l, e, q) (settled-gathered rest out)
+
+    -- the array holds the seeds
+    pub gathered-held : r .count ≤ length seeds
+    unfolding gathered
+    gathered-held = let c = ap (λ (u : Gathered). u .count) e in omega (arith, ap length q, length-append (gatheredSeeds g masks stop set) rest)

@@ -1,0 +1,132 @@
+use mathlib.Core.Path.{_≡_, refl, sym, ap, _∙_}
+use native.Mathlib.Omega.{arith}
+use native.Mathlib.Numerals.{add-one}
+use mathlib.Core.List.{List}
+use Prim.Native.Nat.{ℕ, suc, _+_, _≤_, min}
+use lib.ListN.{length}
+use Rattle.causes.specs.Outcome.{Outcome}
+use Rattle.register.specs.Machine.{machine}
+use Rattle.slices.specs.Slices.{paired}
+use Rattle.covering.specs.Rules.{rules}
+use Rattle.window.proofs.Calls.{table-room, ready-tables}
+use Rattle.encoder.specs.Code.{settled, gatheredSeeds}
+use Rattle.encoder.specs.Encoding.{encoding}
+use Rattle.encoder.proofs.Formed.{SetFormed, set-formed}
+use Rattle.encoder.proofs.Starts.{set-long}
+use Rattle.encoder.proofs.Settling.{settled-encoding, gathered-held}
+use borrow.Author.Needs.{needs}
+use Rattle.encoder.proofs.encode.Statement.{statement}
+use Rattle.encoder.proofs.encode.Tie as tie
+use Rattle.encoder.proofs.encode.Reads as reads
+use Rattle.encoder.proofs.encode.Lts as lts
+use Rattle.bounded.proofs.lesser.Reads as lesser-reads
+use Rattle.encoder.proofs.gather.Reads as gather-reads
+use Rattle.encoder.proofs.settle.Reads as settle-reads
+use Rattle.table.proofs.fill.Reads as fill-reads
+use Rattle.window.proofs.fill_clauses.Reads as fill-clauses-reads
+
+-- src/lib.rt:137:16
+lesser-requires : tie.Need-lesser-requires
+lesser-requires c κs = search needs
+
+-- src/lib.rt:137:16
+add-rows : tie.Need-add-rows
+add-rows c = search needs
+
+-- src/lib.rt:138:36
+slice-aggregate-fill : tie.Need-slice-aggregate-fill
+slice-aggregate-fill c = search needs
+
+-- src/lib.rt:138:5
+fill-requires : tie.Need-fill-requires
+fill-requires c κs =
+    let s = c .before .before .before .before .before .before in
+    let a = s .args in
+    let w = set-formed (a .settings) (a .masks .now) (a .stop) (a .specified .now) (a .bits .now) (s .pre .0) in
+    table-room (c .before .lesser .result + 1) (length (a .masks .now)) (omega (arith, s .pre .1, c .before .lesser .ensures)) (w .few)
+
+-- src/lib.rt:139:65
+slice-aggregate-fill-clauses : tie.Need-slice-aggregate-fill-clauses
+slice-aggregate-fill-clauses c = search needs
+
+-- src/lib.rt:139:9
+fill-clauses-requires : tie.Need-fill-clauses-requires
+fill-clauses-requires c κs =
+    let s = c .before .before .before .before .before .before .before .before .before in
+    let a = s .args in
+    let w = set-formed (a .settings) (a .masks .now) (a .stop) (a .specified .now) (a .bits .now) (s .pre .0) in
+    let l = c .before .before .before .before .lesser in
+    (w .few, table-room (l .result + 1) (length (a .masks .now)) (omega (arith, s .pre .1, l .ensures)) (w .few))
+
+-- src/lib.rt:141:41
+slice-aggregate-gather : tie.Need-slice-aggregate-gather
+slice-aggregate-gather c = search needs
+
+-- src/lib.rt:141:49
+slice-aggregate-gather-2 : tie.Need-slice-aggregate-gather-2
+slice-aggregate-gather-2 c = search needs
+
+-- src/lib.rt:141:76
+slice-aggregate-gather-3 : tie.Need-slice-aggregate-gather-3
+slice-aggregate-gather-3 c = search needs
+
+-- src/lib.rt:140:9
+gather-requires : tie.Need-gather-requires
+gather-requires c κs =
+    let s = c .before .before .before .before .before .before .before .before .before .before .before .before .before .before in
+    let a = s .args in
+    let w = set-formed (a .settings) (a .masks .now) (a .stop) (a .specified .now) (a .bits .now) (s .pre .0) in
+    let l = c .before .before .before .before .before .before .before .before .before .lesser in
+    let k = c .before .before .before .before .fill-clauses in
+    let f = c .before .before .before .before .before .before .before .fill in
+    let n : l .result + 1 ≡ suc (min (a .settings .limit) (length (a .specified .now))) = add-one (l .result) ∙ ap suc (l .ensures) in
+    (
+      rw (sym n) (ready-tables (a .settings) (a .masks .now) (a .stop) (k .result) (f .last .1 .1 .1 .0) (k .last .1 .1 .1 .1 .0) _ _ (l .result + 1) (w .register) (w .chains) (w .stop) (k .ensures .0) (f .ensures) (k .ensures .1)),
+      (w .slices, (s .pre .1, w .long, w .long)),
+    )
+
+-- src/lib.rt:143:39
+slice-aggregate-settle : tie.Need-slice-aggregate-settle
+slice-aggregate-settle c = search needs
+
+-- src/lib.rt:143:5
+settle-requires : tie.Need-settle-requires
+settle-requires c κs =
+    let s = c .before .before .before .before .before .before .before .before .before .before .before .before .before .before .before .before .before .before in
+    let a = s .args in
+    let r = c .before .before .before .gather in
+    gathered-held (a .settings) (a .masks .now) (a .stop) (paired (a .specified .now) (a .bits .now)) (r .result) (r .last .1 .1 .1 .1 .1 .1 .1 .1 .0) _ (r .ensures .0) (r .ensures .1)
+
+-- src/lib.rt:121:1
+same-length : tie.Need-same-length
+same-length c = search needs
+
+-- src/lib.rt:121:1
+returns : tie.Need-returns
+returns c =
+    let s = c .before .before .before .before .before .before .before .before .before .before .before .before .before .before .before .before .before .before .before .before .before in
+    let a = s .args in
+    let r = c .before .before .before .before .before .before .gather in
+    let t = c .before .before .settle in
+    let w = set-formed (a .settings) (a .masks .now) (a .stop) (a .specified .now) (a .bits .now) (s .pre .0) in
+    let e = settled-encoding (a .settings) (a .masks .now) (a .stop) (paired (a .specified .now) (a .bits .now)) (r .result) (r .last .1 .1 .1 .1 .1 .1 .1 .1 .0) _ (r .ensures .0) (r .ensures .1) (length (a .specified .now)) (a .out .now) (set-long (a .settings) (a .masks .now) (a .stop) (a .specified .now) (a .bits .now) (w .slices)) in
+    (t .ensures .0 ∙ ap (λ (o : Outcome). o .answer) e, t .ensures .1 ∙ ap (λ (o : Outcome). o .buffer) e)
+
+pub encode-spec : {M : Type 1} → statement M
+encode-spec =
+    tie.close
+    (tie.spec
+    lesser-requires
+    add-rows
+    slice-aggregate-fill
+    fill-requires
+    slice-aggregate-fill-clauses
+    fill-clauses-requires
+    slice-aggregate-gather
+    slice-aggregate-gather-2
+    slice-aggregate-gather-3
+    gather-requires
+    slice-aggregate-settle
+    settle-requires
+    same-length
+    returns)

@@ -1,0 +1,83 @@
+use mathlib.Core.Path.{_≡_, refl, sym, ap, _∙_}
+use native.Mathlib.Omega.{arith}
+use Rattle.causes.specs.Outcome.{Outcome}
+use Rattle.register.specs.declared.Settings.{Settings}
+use Rattle.register.specs.Machine.{base}
+use Rattle.checks.specs.Order.{judged}
+use Rattle.checks.specs.Calls.{setFaults}
+use Rattle.checks.specs.declared.Verdict.the-variants as verdict
+use Rattle.expander.proofs.Outcomes.{refused-parts}
+use Rattle.encoder.specs.Encoding.{encodeSet}
+use Rattle.encoder.proofs.Calls.{set-refused, set-well, set-outcome}
+use borrow.Author.Needs.{needs}
+use Rattle.encoder.proofs.encode_set.Statement.{statement}
+use Rattle.encoder.proofs.encode_set.Tie as tie
+use Rattle.encoder.proofs.encode_set.Reads as reads
+use Rattle.encoder.proofs.encode_set.Lts as lts
+use Rattle.checks.proofs.check_set.Reads as check-set-reads
+use Rattle.encoder.proofs.encode.Reads as encode-reads
+use Rattle.register.proofs.base.Reads as base-reads
+
+-- src/lib.rt:160:9
+base-requires : tie.Need-base-requires
+base-requires c κs = search needs
+
+-- src/lib.rt:161:9
+check-set-requires : tie.Need-check-set-requires
+check-set-requires c κs = search needs
+
+-- src/lib.rt:163:26
+enum-known-verdict : tie.Need-enum-known-verdict
+enum-known-verdict c = search needs
+
+-- src/lib.rt:164:79
+enum-told : tie.Need-enum-told
+enum-told c = search needs
+
+-- src/lib.rt:164:32
+encode-requires : tie.Need-encode-requires
+encode-requires c κs =
+    let b = c .before .before .before .before .base in
+    let k = c .before .before .before .check-set in
+    let l = ap (λ (g : Settings). g .limit) (b .ensures) in
+    (sym (k .ensures) ∙ c .before .enum-told .given .1, omega (arith, l))
+
+-- src/lib.rt:147:1
+returns : tie.Need-returns
+returns c =
+    let a = c .before .before .before .before .before .before .before .before .before .args in
+    let b = c .before .before .before .before .base in
+    let k = c .before .before .before .check-set in
+    let g = base (a .cells) (a .taps) in
+    let q = rw (b .ensures) at (sym (k .ensures) ∙ c .before .verdict .given .1) in
+    let p = refused-parts (encodeSet g (a .masks .now) (a .stop) (a .specified .now) (a .bits .now) (a .out .now)) _ (a .out .now) (set-refused g (a .masks .now) (a .stop) (a .specified .now) (a .bits .now) (a .out .now) _ q) in
+    set-outcome g (a .masks .now) (a .stop) (a .specified .now) (a .bits .now) (a .out .now) _ (a .out .now) (p .0) (p .1)
+
+-- src/lib.rt:147:1
+same-length : tie.Need-same-length
+same-length c = search needs
+
+-- src/lib.rt:147:1
+returns-2 : tie.Need-returns-2
+returns-2 c =
+    let a = c .before .before .before .before .before .before .before .before .before .before .before .before .args in
+    let b = c .before .before .before .before .before .before .before .base in
+    let k = c .before .before .before .before .before .before .check-set in
+    let g = base (a .cells) (a .taps) in
+    let q : judged (setFaults g (a .masks .now) (a .stop) (a .specified .now) (a .bits .now)) ≡ verdict.WellFormed = rw (b .ensures) at (sym (k .ensures) ∙ c .before .before .before .before .enum-told .given .1) in
+    let e = set-well g (a .masks .now) (a .stop) (a .specified .now) (a .bits .now) (a .out .now) q in
+    let t = c .before .before .encode in
+    set-outcome g (a .masks .now) (a .stop) (a .specified .now) (a .bits .now) (a .out .now) (t .result) _ ((rw (b .ensures) at (t .ensures .0)) ∙ ap (λ (o : Outcome). o .answer) (sym e)) ((rw (b .ensures) at (t .ensures .1)) ∙ ap (λ (o : Outcome). o .buffer) (sym e))
+
+pub encode-set-spec : {M : Type 1} → statement M
+encode-set-spec =
+    tie.close
+    (tie.spec
+    base-requires
+    check-set-requires
+    enum-known-verdict
+    enum-told
+    encode-requires
+    returns
+    same-length
+    returns-2)
