@@ -39,7 +39,7 @@ use Rattle.covering.specs.declared.Seed.{Seed}
 use Rattle.covering.specs.declared.Seed.the-variants as seed
 use Rattle.expander.specs.Run.{slicesOf, firstStop, ending, delivers}
 use Rattle.expander.specs.Expanding.{after, walk, totalled, expanding, expandList}
-use Rattle.encoder.specs.Encoding.{seedsOf, planned, encoding, encodeSet, CubesOutcome, stopped, withStop, encodeCubes}
+use Rattle.encoder.specs.Encoding.{seedsOf, planned, encoding, encodeSet, CubesOutcome, stopped, withStop, cubesEncoding, encodeCubes}
 use Rattle.encoder.specs.declared.Encoded.{Encoded}
 use Rattle.encoder.specs.declared.Encoded.the-variants as encoded
 use Rattle.text.specs.Characters.{isCharacter, specifiedAt, bitAt, inFront, sliceOf}
@@ -158,5 +158,5 @@ tolds [] = []
 tolds (r ∷ rs) = r .told ∷ tolds rs
 
 pub starred : answers table ≡ tolds table
-unfolding answers tolds answer refusal states showings of-formed of-seed of-written of-encoded yes digit odd beyond ones onesIn within any leastBelow lastBelow refuse fill step badRegister chainsSlice badCount badMask badChains agrees shows paired badSlice badSlices badStop badWindow badSet badCubes badList tests firstOf judged stoppedFaults windowFaults setFaults cubesFaults stopFaults listFaults reach hop ends greedy filter count better choice settle keep setBy advance stage ended stopFor stopOr6 stopOf fits quiet covers seedOf before far placed closes seedAt ok lowestOr7 windowSeed slicesOf firstStop ending delivers after walk totalled expanding expandList seedsOf planned encoding encodeSet stopped withStop encodeCubes isCharacter specifiedAt bitAt inFront sliceOf
+unfolding answers tolds answer refusal states showings of-formed of-seed of-written of-encoded yes digit odd beyond ones onesIn within any leastBelow lastBelow refuse fill step badRegister chainsSlice badCount badMask badChains agrees shows paired badSlice badSlices badStop badWindow badSet badCubes badList tests firstOf judged stoppedFaults windowFaults setFaults cubesFaults stopFaults listFaults reach hop ends greedy filter count better choice settle keep setBy advance stage ended stopFor stopOr6 stopOf fits quiet covers seedOf before far placed closes seedAt ok lowestOr7 windowSeed slicesOf firstStop ending delivers after walk totalled expanding expandList seedsOf planned encoding encodeSet stopped withStop cubesEncoding encodeCubes isCharacter specifiedAt bitAt inFront sliceOf
 starred = refl

@@ -4,6 +4,8 @@
 --     numberOf verdict              the number of document 01's refusal sheet, or 0 where nothing is refused
 --     answerOf written              number 0 with the entries written, or the number and value of the refusal
 --     stopAnswerOf formed           number 0 with the stop slice, or the number and value of the refusal, and no position
+--     seedAnswerOf seed             number 0 with the seed, or the number and value of the refusal, and seed 0
+--     cubesAnswerOf encoded         number 0 with the seeds written and the stop slice, or the number and value of the refusal, and no position
 use Prim.Native.Nat.{ℕ}
 use Rattle.causes.specs.Sheet.{refusalOf}
 use Rattle.register.specs.declared.Register.{Register}
@@ -14,7 +16,13 @@ use Rattle.checks.specs.declared.Verdict.{Verdict}
 use Rattle.checks.specs.declared.Verdict.the-variants.{WellFormed, Refused}
 use Rattle.stop.specs.declared.Formed.{Formed}
 use Rattle.stop.specs.declared.Formed.the-variants as formed
+use Rattle.covering.specs.declared.Seed.{Seed}
+use Rattle.covering.specs.declared.Seed.the-variants as seed
+use Rattle.encoder.specs.declared.Encoded.{Encoded}
+use Rattle.encoder.specs.declared.Encoded.the-variants as encoded
 use Rattle.seeds.specs.declared.Answer.{Answer}
+use Rattle.seeds.specs.declared.SeedAnswer.{SeedAnswer}
+use Rattle.seeds.specs.declared.CubesAnswer.{CubesAnswer}
 use Rattle.seeds.specs.declared.StopAnswer.{StopAnswer}
 
 abbrev pub registerOf : ℕ → ℕ → Register
@@ -34,3 +42,11 @@ answerOf (written.Refused c) = record { number = refusalOf c .number; value = re
 abbrev pub stopAnswerOf : Formed → StopAnswer
 stopAnswerOf (formed.Stop stop) = record { number = 0; value = 0; specified = stop .specified; bits = stop .bits }
 stopAnswerOf (formed.Refused c) = record { number = refusalOf c .number; value = refusalOf c .value; specified = 0; bits = 0 }
+
+abbrev pub seedAnswerOf : Seed → SeedAnswer
+seedAnswerOf (seed.Lowest s) = record { number = 0; value = 0; seed = s }
+seedAnswerOf (seed.Refused c) = record { number = refusalOf c .number; value = refusalOf c .value; seed = 0 }
+
+abbrev pub cubesAnswerOf : Encoded → CubesAnswer
+cubesAnswerOf (encoded.Seeds stop n) = record { number = 0; value = n; specified = stop .specified; bits = stop .bits }
+cubesAnswerOf (encoded.Refused c) = record { number = refusalOf c .number; value = refusalOf c .value; specified = 0; bits = 0 }

@@ -1,6 +1,8 @@
 // The library's face for C and Rust: entries without `requires`, each a few lines over the crates below.
 use causes::Written;
 use checks::Verdict;
+use covering::Seed;
+use encoder::Encoded;
 use register::Register;
 use slices::TestSlice;
 use stop::Formed;
@@ -15,7 +17,10 @@ ghost use Rattle.checks.specs.Calls.{windowFaults, setFaults, cubesFaults, stop
 ghost use Rattle.stop.specs.Lookup.{inCount};
 ghost use Rattle.stop.specs.Entry.{stopOf};
 ghost use Rattle.expander.specs.Expanding.{expandList};
-ghost use Rattle.seeds.specs.Face.{registerOf, testSliceOf, numberOf, answerOf, stopAnswerOf};
+ghost use Rattle.covering.specs.Single.{windowSeed, WindowMeaning};
+ghost use Rattle.encoder.specs.Encoding.{encodeSet, encodeCubes};
+ghost use Rattle.encoder.specs.Meaning.{SetMeaning, CubesMeaning};
+ghost use Rattle.seeds.specs.Face.{answerOf, cubesAnswerOf, numberOf, registerOf, seedAnswerOf, stopAnswerOf, testSliceOf};
 
 // The answer of a call that writes into a lent buffer: number 0 with the entries written, or the number and value of the refusal.
 #[repr(C)]
@@ -27,6 +32,23 @@ pub struct Answer {
 // The answer of the call for a stop slice: number 0 with the stop slice, or the number and value of the refusal, and no position.
 #[repr(C)]
 pub struct StopAnswer {
+    pub number: usize,
+    pub value: usize,
+    pub specified: u64,
+    pub bits: u64,
+}
+
+// The answer of the call for a window's seed: number 0 with the seed, or the number and value of the refusal, and seed 0.
+#[repr(C)]
+pub struct SeedAnswer {
+    pub number: usize,
+    pub value: usize,
+    pub seed: u64,
+}
+
+// The answer of the call for cubes: number 0 with the seeds written and the stop slice of the steps, or the number and value of the refusal, and no position.
+#[repr(C)]
+pub struct CubesAnswer {
     pub number: usize,
     pub value: usize,
     pub specified: u64,
@@ -253,4 +275,110 @@ pub extern "C" fn seeds_expand(
         bits: stop_bits,
     };
     answer_of(expander::expand_list(cells, taps, masks, stop, slices, seeds, out))
+}
+
+// The number, value and seed of a call for one.
+fn seed_answer_of(seed: Seed) -> SeedAnswer
+    ensures { λ r. ⌜ r ≡ seedAnswerOf seed ⌝ }
+{
+    match seed {
+        Seed::Lowest(state) => SeedAnswer {
+            number: 0,
+            value: 0,
+            seed: state,
+        },
+        Seed::Refused(cause) => {
+            let refusal = causes::refusal_of(cause);
+            SeedAnswer {
+                number: refusal.number,
+                value: refusal.value,
+                seed: 0,
+            }
+        }
+    }
+}
+
+// The number, value and stop slice of a call for cubes.
+fn cubes_answer_of(encoded: Encoded) -> CubesAnswer
+    ensures { λ r. ⌜ r ≡ cubesAnswerOf encoded ⌝ }
+{
+    match encoded {
+        Encoded::Seeds(stop, count) => CubesAnswer {
+            number: 0,
+            value: count,
+            specified: stop.specified,
+            bits: stop.bits,
+        },
+        Encoded::Refused(cause) => {
+            let refusal = causes::refusal_of(cause);
+            CubesAnswer {
+                number: refusal.number,
+                value: refusal.value,
+                specified: 0,
+                bits: 0,
+            }
+        }
+    }
+}
+
+// The seed of a window: causes 1 to 5, then 7.
+#[no_mangle]
+pub extern "C" fn seeds_window(
+    cells: usize,
+    taps: u64,
+    masks: &[u64],
+    stop_specified: u64,
+    stop_bits: u64,
+    specified: &[u64],
+    bits: &[u64],
+) -> SeedAnswer
+    ensures answer { λ r. ⌜ r ≡ seedAnswerOf (windowSeed (base cells taps) (now (masks .entry)) (testSliceOf «stop_specified» «stop_bits») (now (specified .entry)) (now (bits .entry))) ⌝ }
+    ensures meaning { λ _. ⌜ WindowMeaning (base cells taps) (now (masks .entry)) (testSliceOf «stop_specified» «stop_bits») (now (specified .entry)) (now (bits .entry)) (windowSeed (base cells taps) (now (masks .entry)) (testSliceOf «stop_specified» «stop_bits») (now (specified .entry)) (now (bits .entry))) ⌝ }
+{
+    let stop = TestSlice {
+        specified: stop_specified,
+        bits: stop_bits,
+    };
+    seed_answer_of(window::window_seed(cells, taps, masks, stop, specified, bits))
+}
+
+// The seeds of a set with its stop slice, written into the buffer: causes 1 to 5, then 8, then 9.
+#[no_mangle]
+pub extern "C" fn seeds_encode_set(
+    cells: usize,
+    taps: u64,
+    masks: &[u64],
+    stop_specified: u64,
+    stop_bits: u64,
+    specified: &[u64],
+    bits: &[u64],
+    out: &mut [u64],
+) -> Answer
+    ensures answer { λ r. ⌜ r ≡ answerOf (encodeSet (base cells taps) (now (masks .entry)) (testSliceOf «stop_specified» «stop_bits») (now (specified .entry)) (now (bits .entry)) (now (out .entry)) .answer) ⌝ }
+    ensures buffer { λ _. ⌜ now (out .exit) ≡ encodeSet (base cells taps) (now (masks .entry)) (testSliceOf «stop_specified» «stop_bits») (now (specified .entry)) (now (bits .entry)) (now (out .entry)) .buffer ⌝ }
+    ensures meaning { λ _. ⌜ SetMeaning (base cells taps) (now (masks .entry)) (testSliceOf «stop_specified» «stop_bits») (now (specified .entry)) (now (bits .entry)) (now (out .entry)) (encodeSet (base cells taps) (now (masks .entry)) (testSliceOf «stop_specified» «stop_bits») (now (specified .entry)) (now (bits .entry)) (now (out .entry))) ⌝ }
+{
+    let stop = TestSlice {
+        specified: stop_specified,
+        bits: stop_bits,
+    };
+    answer_of(encoder::encode_set(cells, taps, masks, stop, specified, bits, out))
+}
+
+// The stop slice of the steps and the seeds of cubes, written into the buffer: causes 1 to 4, then 6, then 8, then 9.
+#[no_mangle]
+pub extern "C" fn seeds_encode_cubes(
+    cells: usize,
+    taps: u64,
+    masks: &[u64],
+    depth: usize,
+    specified: &[u64],
+    bits: &[u64],
+    out: &mut [u64],
+) -> CubesAnswer
+    ensures answer { λ r. ⌜ r ≡ cubesAnswerOf (encodeCubes (base cells taps) (now (masks .entry)) depth (now (specified .entry)) (now (bits .entry)) (now (out .entry)) .answer) ⌝ }
+    ensures buffer { λ _. ⌜ now (out .exit) ≡ encodeCubes (base cells taps) (now (masks .entry)) depth (now (specified .entry)) (now (bits .entry)) (now (out .entry)) .buffer ⌝ }
+    ensures meaning { λ _. ⌜ CubesMeaning (base cells taps) (now (masks .entry)) depth (now (specified .entry)) (now (bits .entry)) (now (out .entry)) (encodeCubes (base cells taps) (now (masks .entry)) depth (now (specified .entry)) (now (bits .entry)) (now (out .entry))) ⌝ }
+{
+    cubes_answer_of(encoder::encode_cubes(cells, taps, masks, depth, specified, bits, out))
 }

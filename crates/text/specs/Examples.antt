@@ -26,7 +26,7 @@ use Rattle.covering.specs.Covering.{fits, quiet, covers, seedOf}
 use Rattle.covering.specs.Windows.{before, far, placed, closes, seedAt, ok}
 use Rattle.expander.specs.Run.{slicesOf, firstStop, ending, delivers}
 use Rattle.expander.specs.Expanding.{after, walk, totalled, expanding, expandList}
-use Rattle.encoder.specs.Encoding.{seedsOf, planned, encoding, stopped, withStop, encodeCubes}
+use Rattle.encoder.specs.Encoding.{seedsOf, planned, encoding, stopped, withStop, cubesEncoding, encodeCubes}
 use Rattle.text.specs.Bytes.{bytes, starts, split}
 use Rattle.text.specs.Numbers.{worth, digits, leadingZero, number, glyph, lastDigits, numeral}
 use Rattle.text.specs.Characters.{isCharacter, specifiedAt, bitAt, inFront, sliceOf, character, characters}
@@ -163,5 +163,5 @@ tolds [] = []
 tolds (r ∷ rs) = r .told ∷ tolds rs
 
 pub worked : answers table ≡ tolds table
-unfolding answers tolds answer of-call ones onesIn within any leastBelow lastBelow digit odd beyond refuse fill step badRegister slice badCount badMask badChains agrees shows paired badSlice badSlices badStop badSet badCubes badList tests firstOf judged cubesFaults listFaults reach hop ends greedy filter count better choice settle keep setBy advance stage ended stopFor fits quiet covers seedOf before far placed closes seedAt ok slicesOf firstStop ending delivers after walk totalled expanding expandList seedsOf planned encoding stopped withStop encodeCubes starts split worth digits leadingZero number glyph lastDigits numeral isCharacter specifiedAt bitAt inFront sliceOf character characters name keyOf rank same notation longest numbered sliced valued formed inOrder outOfRange rangeCause tested saying afterChains moved mayEnd causeOf refusedAt reading readingOf numbersFor slicesFor lastOr numberFor sliceFor settingsOf numberLine numberLines sliceLine sliceLines listText refusedText lent encoded expanded replied encodeReply expandReply printed encodeText expandText answered called encodeCall expandCall
+unfolding answers tolds answer of-call ones onesIn within any leastBelow lastBelow digit odd beyond refuse fill step badRegister slice badCount badMask badChains agrees shows paired badSlice badSlices badStop badSet badCubes badList tests firstOf judged cubesFaults listFaults reach hop ends greedy filter count better choice settle keep setBy advance stage ended stopFor fits quiet covers seedOf before far placed closes seedAt ok slicesOf firstStop ending delivers after walk totalled expanding expandList seedsOf planned encoding stopped withStop cubesEncoding encodeCubes starts split worth digits leadingZero number glyph lastDigits numeral isCharacter specifiedAt bitAt inFront sliceOf character characters name keyOf rank same notation longest numbered sliced valued formed inOrder outOfRange rangeCause tested saying afterChains moved mayEnd causeOf refusedAt reading readingOf numbersFor slicesFor lastOr numberFor sliceFor settingsOf numberLine numberLines sliceLine sliceLines listText refusedText lent encoded expanded replied encodeReply expandReply printed encodeText expandText answered called encodeCall expandCall
 worked = refl

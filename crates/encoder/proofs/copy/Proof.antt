@@ -1,15 +1,13 @@
-use Rattle.bounded.proofs.Front.{Front, front-start, front-length, front-next, front-end}
-use borrow.Author.Needs.{needs}
-use native.Mathlib.Omega.{arith}
-use native.Mathlib.Numerals.{add-one}
-use Prim.Native.Nat.{_-_, _≤_}
-use mathlib.Core.Path.{_≡_, refl, sym, ap, _∙_}
+-- `encoder::copy` meets its contract. Assumes nothing.
+use mathlib.Core.Path.{_≡_, refl}
 use mathlib.Core.List.{_++_}
-use lib.ListN.{length, take, drop}
+use Prim.Native.Nat.{_-_, _≤_}
+use native.Mathlib.Omega.{arith}
+use lib.ListN.{take, drop}
+use borrow.Author.Needs.{needs}
+use Rattle.bounded.proofs.Front.{front-length, front-next, front-end}
 use Rattle.encoder.proofs.copy.Statement.{statement}
 use Rattle.encoder.proofs.copy.Tie as tie
-use Rattle.encoder.proofs.copy.Reads as reads
-use Rattle.encoder.proofs.copy.Lts as lts
 
 abbrev Inv-loop : tie.InvT-loop
 Inv-loop seeds count out₀ place₀ out place = (place ≤ count) × (out ≡ take place seeds ++ drop place out₀)
@@ -17,52 +15,42 @@ Inv-loop seeds count out₀ place₀ out place = (place ≤ count) × (out ≡ t
 abbrev μ-loop : tie.MeasureT-loop
 μ-loop seeds count out₀ place₀ out place = count - place
 
--- src/lib.rt:97:5
 loop-holds : tie.Need-loop-holds Inv-loop μ-loop
 loop-holds c = (omega arith, refl)
 
--- src/lib.rt:98:22
 mul-out : tie.Need-mul-out Inv-loop μ-loop
 mul-out c = search needs
 
--- src/lib.rt:98:22
 shared-slice-read-out : tie.Need-shared-slice-read-out Inv-loop μ-loop
 shared-slice-read-out c = search needs
 
--- src/lib.rt:98:9
 mul-out-2 : tie.Need-mul-out-2 Inv-loop μ-loop
 mul-out-2 c = search needs
 
--- src/lib.rt:98:9
 slice-write-out : tie.Need-slice-write-out Inv-loop μ-loop
 slice-write-out c =
     let s = c .before .before .before in
     let l = c .before .before .loop in
     omega (arith, front-length (s .args .seeds .now) (s .args .out .now) (l .out) (l .place) (omega (arith, s .pre .0)) (omega (arith, s .pre .1)) (l .inv .1), s .pre .1, c .before .loop-test .taken)
 
--- src/lib.rt:99:9
 add-place : tie.Need-add-place Inv-loop μ-loop
 add-place c = search needs
 
--- src/lib.rt:97:5
 loop-less : tie.Need-loop-less Inv-loop μ-loop
 loop-less c = search needs
 
--- src/lib.rt:97:5
 loop-again : tie.Need-loop-again Inv-loop μ-loop
 loop-again c =
     let s = c .before .before .before in
     let l = c .before .before .loop in
     (omega (arith, c .before .loop-test .taken), front-next (s .args .seeds .now) (s .args .out .now) (l .out) (l .place) (omega (arith, s .pre .0, c .before .loop-test .taken)) (omega (arith, s .pre .1, c .before .loop-test .taken)) (l .inv .1))
 
--- src/lib.rt:92:1
 same-length : tie.Need-same-length Inv-loop μ-loop
 same-length c =
     let s = c .before .before in
     let l = c .before .loop in
     front-length (s .args .seeds .now) (s .args .out .now) (l .out) (l .place) (omega (arith, s .pre .0)) (omega (arith, s .pre .1)) (l .inv .1)
 
--- src/lib.rt:92:1
 returns : tie.Need-returns Inv-loop μ-loop
 returns c =
     let s = c .before .before in

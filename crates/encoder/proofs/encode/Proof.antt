@@ -1,43 +1,28 @@
-use mathlib.Core.Path.{_≡_, refl, sym, ap, _∙_}
+-- `encoder::encode` meets its contract. Assumes nothing.
+use mathlib.Core.Path.{_≡_, sym, ap, _∙_}
+use Prim.Native.Nat.{suc, _+_, min}
 use native.Mathlib.Omega.{arith}
 use native.Mathlib.Numerals.{add-one}
-use mathlib.Core.List.{List}
-use Prim.Native.Nat.{ℕ, suc, _+_, _≤_, min}
 use lib.ListN.{length}
+use borrow.Author.Needs.{needs}
 use Rattle.causes.specs.Outcome.{Outcome}
-use Rattle.register.specs.Machine.{machine}
 use Rattle.slices.specs.Slices.{paired}
-use Rattle.covering.specs.Rules.{rules}
 use Rattle.window.proofs.Calls.{table-room, ready-tables}
-use Rattle.encoder.specs.Code.{settled, gatheredSeeds}
-use Rattle.encoder.specs.Encoding.{encoding}
-use Rattle.encoder.proofs.Formed.{SetFormed, set-formed}
+use Rattle.encoder.proofs.Formed.{set-formed}
 use Rattle.encoder.proofs.Starts.{set-long}
 use Rattle.encoder.proofs.Settling.{settled-encoding, gathered-held}
-use borrow.Author.Needs.{needs}
 use Rattle.encoder.proofs.encode.Statement.{statement}
 use Rattle.encoder.proofs.encode.Tie as tie
-use Rattle.encoder.proofs.encode.Reads as reads
-use Rattle.encoder.proofs.encode.Lts as lts
-use Rattle.bounded.proofs.lesser.Reads as lesser-reads
-use Rattle.encoder.proofs.gather.Reads as gather-reads
-use Rattle.encoder.proofs.settle.Reads as settle-reads
-use Rattle.table.proofs.fill.Reads as fill-reads
-use Rattle.window.proofs.fill_clauses.Reads as fill-clauses-reads
 
--- src/lib.rt:137:16
 lesser-requires : tie.Need-lesser-requires
 lesser-requires c κs = search needs
 
--- src/lib.rt:137:16
 add-rows : tie.Need-add-rows
 add-rows c = search needs
 
--- src/lib.rt:138:36
 slice-aggregate-fill : tie.Need-slice-aggregate-fill
 slice-aggregate-fill c = search needs
 
--- src/lib.rt:138:5
 fill-requires : tie.Need-fill-requires
 fill-requires c κs =
     let s = c .before .before .before .before .before .before in
@@ -45,11 +30,9 @@ fill-requires c κs =
     let w = set-formed (a .settings) (a .masks .now) (a .stop) (a .specified .now) (a .bits .now) (s .pre .0) in
     table-room (c .before .lesser .result + 1) (length (a .masks .now)) (omega (arith, s .pre .1, c .before .lesser .ensures)) (w .few)
 
--- src/lib.rt:139:65
 slice-aggregate-fill-clauses : tie.Need-slice-aggregate-fill-clauses
 slice-aggregate-fill-clauses c = search needs
 
--- src/lib.rt:139:9
 fill-clauses-requires : tie.Need-fill-clauses-requires
 fill-clauses-requires c κs =
     let s = c .before .before .before .before .before .before .before .before .before in
@@ -58,19 +41,15 @@ fill-clauses-requires c κs =
     let l = c .before .before .before .before .lesser in
     (w .few, table-room (l .result + 1) (length (a .masks .now)) (omega (arith, s .pre .1, l .ensures)) (w .few))
 
--- src/lib.rt:141:41
 slice-aggregate-gather : tie.Need-slice-aggregate-gather
 slice-aggregate-gather c = search needs
 
--- src/lib.rt:141:49
 slice-aggregate-gather-2 : tie.Need-slice-aggregate-gather-2
 slice-aggregate-gather-2 c = search needs
 
--- src/lib.rt:141:76
 slice-aggregate-gather-3 : tie.Need-slice-aggregate-gather-3
 slice-aggregate-gather-3 c = search needs
 
--- src/lib.rt:140:9
 gather-requires : tie.Need-gather-requires
 gather-requires c κs =
     let s = c .before .before .before .before .before .before .before .before .before .before .before .before .before .before in
@@ -85,11 +64,9 @@ gather-requires c κs =
       (w .slices, (s .pre .1, w .long, w .long)),
     )
 
--- src/lib.rt:143:39
 slice-aggregate-settle : tie.Need-slice-aggregate-settle
 slice-aggregate-settle c = search needs
 
--- src/lib.rt:143:5
 settle-requires : tie.Need-settle-requires
 settle-requires c κs =
     let s = c .before .before .before .before .before .before .before .before .before .before .before .before .before .before .before .before .before .before in
@@ -97,11 +74,9 @@ settle-requires c κs =
     let r = c .before .before .before .gather in
     gathered-held (a .settings) (a .masks .now) (a .stop) (paired (a .specified .now) (a .bits .now)) (r .result) (r .last .1 .1 .1 .1 .1 .1 .1 .1 .0) _ (r .ensures .0) (r .ensures .1)
 
--- src/lib.rt:121:1
 same-length : tie.Need-same-length
 same-length c = search needs
 
--- src/lib.rt:121:1
 returns : tie.Need-returns
 returns c =
     let s = c .before .before .before .before .before .before .before .before .before .before .before .before .before .before .before .before .before .before .before .before .before in

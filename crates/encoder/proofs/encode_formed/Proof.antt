@@ -1,32 +1,21 @@
-use mathlib.Core.Path.{_≡_, refl, sym, ap, _∙_}
-use lib.ListN.{length}
-use Rattle.slices.specs.Slices.{paired}
-use Rattle.stop.specs.Steps.{stopFor}
-use Rattle.encoder.specs.Encoding.{CubesOutcome, cubesEncoding, stopped, withStop}
+-- `encoder::encode_formed` meets its contract. Assumes nothing.
+use mathlib.Core.Path.{sym, ap, _∙_}
+use borrow.Author.Needs.{needs}
+use Rattle.encoder.specs.Encoding.{CubesOutcome, stopped, withStop}
 use Rattle.encoder.specs.declared.Encoded.the-variants.{Refused}
 use Rattle.encoder.proofs.Cubes.{steps-refused, steps-stop, stop-set, cubes-unstopped, cubes-stopped}
-use borrow.Author.Needs.{needs}
 use Rattle.encoder.proofs.encode_formed.Statement.{statement}
 use Rattle.encoder.proofs.encode_formed.Tie as tie
-use Rattle.encoder.proofs.encode_formed.Reads as reads
-use Rattle.encoder.proofs.encode_formed.Lts as lts
-use Rattle.encoder.proofs.encode.Reads as encode-reads
-use Rattle.encoder.proofs.with_stop.Reads as with-stop-reads
-use Rattle.stop.proofs.stop_slice.Reads as stop-slice-reads
 
--- src/lib.rt:190:9
 stop-slice-requires : tie.Need-stop-slice-requires
 stop-slice-requires c κs = search needs
 
--- src/lib.rt:192:25
 enum-known-formed : tie.Need-enum-known-formed
 enum-known-formed c = search needs
 
--- src/lib.rt:193:22
 enum-known-formed-2 : tie.Need-enum-known-formed-2
 enum-known-formed-2 c = search needs
 
--- src/lib.rt:193:47
 encode-requires : tie.Need-encode-requires
 encode-requires c κs =
     let s = c .before .before .before .before .before .before .before .before .before in
@@ -35,11 +24,9 @@ encode-requires c κs =
     let e = steps-stop (a .settings) (a .masks .now) (a .specified .now) (a .bits .now) (s .pre .0) _ (sym (k .ensures) ∙ c .before .before .formed2 .given .1) in
     (stop-set (a .settings) (a .masks .now) (a .specified .now) (a .bits .now) (s .pre .0) _ e, s .pre .1)
 
--- src/lib.rt:193:31
 with-stop-requires : tie.Need-with-stop-requires
 with-stop-requires c κs = search needs
 
--- src/lib.rt:179:1
 returns : tie.Need-returns
 returns c =
     let s = c .before .before .before .before .before .before .before .before in
@@ -49,11 +36,9 @@ returns c =
     let o = cubes-unstopped (a .settings) (a .masks .now) (a .specified .now) (a .bits .now) (a .out .now) (e .0) in
     (ap Refused (e .1) ∙ sym (ap (λ (u : CubesOutcome). u .answer) o), sym (ap (λ (u : CubesOutcome). u .buffer) o))
 
--- src/lib.rt:179:1
 same-length : tie.Need-same-length
 same-length c = search needs
 
--- src/lib.rt:179:1
 returns-2 : tie.Need-returns-2
 unfolding withStop
 returns-2 c =

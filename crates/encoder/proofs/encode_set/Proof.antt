@@ -1,40 +1,31 @@
-use mathlib.Core.Path.{_≡_, refl, sym, ap, _∙_}
+-- `encoder::encode_set` meets its contract. Assumes nothing.
+use mathlib.Core.Path.{_≡_, sym, ap, _∙_}
 use native.Mathlib.Omega.{arith}
+use borrow.Author.Needs.{needs}
 use Rattle.causes.specs.Outcome.{Outcome}
 use Rattle.register.specs.declared.Settings.{Settings}
 use Rattle.register.specs.Machine.{base}
 use Rattle.checks.specs.Order.{judged}
 use Rattle.checks.specs.Calls.{setFaults}
-use Rattle.checks.specs.declared.Verdict.the-variants as verdict
 use Rattle.expander.proofs.Outcomes.{refused-parts}
 use Rattle.encoder.specs.Encoding.{encodeSet}
 use Rattle.encoder.proofs.Calls.{set-refused, set-well, set-outcome}
-use borrow.Author.Needs.{needs}
 use Rattle.encoder.proofs.encode_set.Statement.{statement}
+use Rattle.checks.specs.declared.Verdict.the-variants as verdict
 use Rattle.encoder.proofs.encode_set.Tie as tie
-use Rattle.encoder.proofs.encode_set.Reads as reads
-use Rattle.encoder.proofs.encode_set.Lts as lts
-use Rattle.checks.proofs.check_set.Reads as check-set-reads
-use Rattle.encoder.proofs.encode.Reads as encode-reads
-use Rattle.register.proofs.base.Reads as base-reads
 
--- src/lib.rt:160:9
 base-requires : tie.Need-base-requires
 base-requires c κs = search needs
 
--- src/lib.rt:161:9
 check-set-requires : tie.Need-check-set-requires
 check-set-requires c κs = search needs
 
--- src/lib.rt:163:26
 enum-known-verdict : tie.Need-enum-known-verdict
 enum-known-verdict c = search needs
 
--- src/lib.rt:164:79
 enum-told : tie.Need-enum-told
 enum-told c = search needs
 
--- src/lib.rt:164:32
 encode-requires : tie.Need-encode-requires
 encode-requires c κs =
     let b = c .before .before .before .before .base in
@@ -42,7 +33,6 @@ encode-requires c κs =
     let l = ap (λ (g : Settings). g .limit) (b .ensures) in
     (sym (k .ensures) ∙ c .before .enum-told .given .1, omega (arith, l))
 
--- src/lib.rt:147:1
 returns : tie.Need-returns
 returns c =
     let a = c .before .before .before .before .before .before .before .before .before .args in
@@ -53,11 +43,9 @@ returns c =
     let p = refused-parts (encodeSet g (a .masks .now) (a .stop) (a .specified .now) (a .bits .now) (a .out .now)) _ (a .out .now) (set-refused g (a .masks .now) (a .stop) (a .specified .now) (a .bits .now) (a .out .now) _ q) in
     set-outcome g (a .masks .now) (a .stop) (a .specified .now) (a .bits .now) (a .out .now) _ (a .out .now) (p .0) (p .1)
 
--- src/lib.rt:147:1
 same-length : tie.Need-same-length
 same-length c = search needs
 
--- src/lib.rt:147:1
 returns-2 : tie.Need-returns-2
 returns-2 c =
     let a = c .before .before .before .before .before .before .before .before .before .before .before .before .args in

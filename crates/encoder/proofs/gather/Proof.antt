@@ -1,28 +1,21 @@
-use Rattle.encoder.proofs.Gathering.{gathering-answer}
+-- `encoder::gather` meets its contract. Assumes nothing.
+use mathlib.Core.Path.{_∙_}
+use Prim.Native.Nat.{_-_, _≤_, _<_}
+use native.Mathlib.Omega.{arith}
+use lib.ListN.{length}
+use borrow.Author.Needs.{needs}
+use Rattle.encoder.proofs.Gathering.{gathering-answer, Gathering, gathering-start, gathering-next}
 use Rattle.covering.proofs.Windows.{set-bounds}
 use Rattle.covering.specs.Windows.{ok}
 use Rattle.cutting.specs.Greedy.{reach}
 use Rattle.cutting.proofs.Reach.{reach-end}
 use Rattle.window.proofs.Seeds.{ready-fewer}
-use Rattle.encoder.specs.Code.{gathered, gatheredSeeds}
-use Rattle.encoder.specs.declared.Gathered.{Gathered}
 use Rattle.encoder.proofs.Starts.{set-long, part-bounds, part-slices, part-window}
-use mathlib.Core.Path.{ap₂}
-use borrow.Author.Needs.{needs}
-use native.Mathlib.Omega.{arith}
-use Prim.Native.Nat.{ℕ, _-_, _≤_, _<_}
-use mathlib.Core.Path.{_≡_, refl, sym, ap, _∙_}
-use lib.ListN.{length, take, drop}
 use Rattle.register.specs.Machine.{machine}
 use Rattle.slices.specs.Slices.{paired}
 use Rattle.covering.specs.Rules.{rules}
-use Rattle.encoder.proofs.Gathering.{Gathering, gathering-start, gathering-next, gathering-end}
 use Rattle.encoder.proofs.gather.Statement.{statement}
 use Rattle.encoder.proofs.gather.Tie as tie
-use Rattle.encoder.proofs.gather.Reads as reads
-use Rattle.encoder.proofs.gather.Lts as lts
-use Rattle.encoder.proofs.far.Reads as far-reads
-use Rattle.window.proofs.reach.Reads as reach-reads
 
 abbrev Inv-loop : tie.InvT-loop
 Inv-loop settings masks stop pattern table clauses specified bits seeds₀ slices place₀ count₀ seeds place count =
@@ -32,23 +25,19 @@ abbrev μ-loop : tie.MeasureT-loop
 μ-loop settings masks stop pattern table clauses specified bits seeds₀ slices place₀ count₀ seeds place count =
     slices - place
 
--- src/lib.rt:68:5
 loop-holds : tie.Need-loop-holds Inv-loop μ-loop
 loop-holds c =
     let a = c .before .before .before .before .before .before .args in
     gathering-start (machine (a .settings) (a .masks .now)) (rules (a .settings) (a .stop)) (paired (a .specified .now) (a .bits .now)) (a .seeds .now)
 
--- src/lib.rt:69:13
 far-requires : tie.Need-far-requires Inv-loop μ-loop
 far-requires c κs =
     let s = c .before .before .before .before .before .before .before .before in
     (s .pre .1 .1 .0, omega (arith, s .pre .1 .1 .1, c .loop-test .taken))
 
--- src/lib.rt:78:13
 mul-reach : tie.Need-mul-reach Inv-loop μ-loop
 mul-reach c = search needs
 
--- src/lib.rt:78:13
 sub-reach : tie.Need-sub-reach Inv-loop μ-loop
 sub-reach c =
     let i = c .before in
@@ -57,7 +46,6 @@ sub-reach c =
     let b = part-bounds (a .settings) (a .masks .now) (a .stop) (a .specified .now) (a .bits .now) (s .pre .1 .0) (i .before .loop .place) (c .far .result) (omega (arith, i .loop-test .taken)) (c .far .ensures (a .stop)) in
     b .0
 
--- src/lib.rt:78:13
 part-reach-start : tie.Need-part-reach-start Inv-loop μ-loop
 part-reach-start c =
     let i = c .before in
@@ -65,7 +53,6 @@ part-reach-start c =
     let a = s .args in
     part-bounds (a .settings) (a .masks .now) (a .stop) (a .specified .now) (a .bits .now) (s .pre .1 .0) (i .before .loop .place) (c .far .result) (omega (arith, i .loop-test .taken)) (c .far .ensures (a .stop)) .0
 
--- src/lib.rt:78:13
 part-reach-end : tie.Need-part-reach-end Inv-loop μ-loop
 part-reach-end c =
     let i = c .before in
@@ -73,11 +60,9 @@ part-reach-end c =
     let a = s .args in
     part-bounds (a .settings) (a .masks .now) (a .stop) (a .specified .now) (a .bits .now) (s .pre .1 .0) (i .before .loop .place) (c .far .result) (omega (arith, i .loop-test .taken)) (c .far .ensures (a .stop)) .1
 
--- src/lib.rt:79:13
 mul-reach-2 : tie.Need-mul-reach-2 Inv-loop μ-loop
 mul-reach-2 c = search needs
 
--- src/lib.rt:79:13
 sub-reach-2 : tie.Need-sub-reach-2 Inv-loop μ-loop
 sub-reach-2 c =
     let i = c .before .before in
@@ -85,7 +70,6 @@ sub-reach-2 c =
     let a = s .args in
     part-bounds (a .settings) (a .masks .now) (a .stop) (a .specified .now) (a .bits .now) (s .pre .1 .0) (i .before .loop .place) (c .before .far .result) (omega (arith, i .loop-test .taken)) (c .before .far .ensures (a .stop)) .0
 
--- src/lib.rt:79:13
 part-reach-start-2 : tie.Need-part-reach-start-2 Inv-loop μ-loop
 part-reach-start-2 c =
     let i = c .before .before in
@@ -93,7 +77,6 @@ part-reach-start-2 c =
     let a = s .args in
     part-bounds (a .settings) (a .masks .now) (a .stop) (a .specified .now) (a .bits .now) (s .pre .1 .0) (i .before .loop .place) (c .before .far .result) (omega (arith, i .loop-test .taken)) (c .before .far .ensures (a .stop)) .0
 
--- src/lib.rt:79:13
 part-reach-end-2 : tie.Need-part-reach-end-2 Inv-loop μ-loop
 part-reach-end-2 c =
     let i = c .before .before in
@@ -101,7 +84,6 @@ part-reach-end-2 c =
     let a = s .args in
     part-bounds (a .settings) (a .masks .now) (a .stop) (a .specified .now) (a .bits .now) (s .pre .1 .0) (i .before .loop .place) (c .before .far .result) (omega (arith, i .loop-test .taken)) (c .before .far .ensures (a .stop)) .2
 
--- src/lib.rt:70:13
 reach-requires : tie.Need-reach-requires Inv-loop μ-loop
 reach-requires c κs =
     let i = c .before .before .before in
@@ -115,11 +97,9 @@ reach-requires c κs =
       part-slices (a .settings) (a .masks .now) (a .stop) (a .specified .now) (a .bits .now) (s .pre .1 .0) (l .place) (f .result) (omega (arith, i .loop-test .taken)) (f .ensures (a .stop)),
     )
 
--- src/lib.rt:82:13
 same-length : tie.Need-same-length Inv-loop μ-loop
 same-length c = search needs
 
--- src/lib.rt:82:13
 returns : tie.Need-returns Inv-loop μ-loop
 returns c =
     let i = c .before .before .before .before .before .before in
@@ -131,11 +111,9 @@ returns c =
     gathering-answer (a .settings) (a .masks .now) (a .stop) (paired (a .specified .now) (a .bits .now)) (a .seeds .now) (l .place) (l .count) (l .seeds)
     (omega (arith, set-long (a .settings) (a .masks .now) (a .stop) (a .specified .now) (a .bits .now) (s .pre .1 .0), s .pre .1 .1 .2)) (w .end ∙ omega (arith, c .if1 .taken)) (l .inv)
 
--- src/lib.rt:84:9
 mul-seeds : tie.Need-mul-seeds Inv-loop μ-loop
 mul-seeds c = search needs
 
--- src/lib.rt:84:9
 slice-write-seeds : tie.Need-slice-write-seeds Inv-loop μ-loop
 slice-write-seeds c =
     let i = c .before .before .before .before .before .before in
@@ -143,11 +121,9 @@ slice-write-seeds c =
     let l = i .before .loop in
     omega (arith, l .inv .before, l .inv .same, s .pre .1 .1 .2, i .loop-test .taken)
 
--- src/lib.rt:85:9
 add-count : tie.Need-add-count Inv-loop μ-loop
 add-count c = search needs
 
--- src/lib.rt:86:9
 add-place : tie.Need-add-place Inv-loop μ-loop
 add-place c =
     let i = c .before .before .before .before .before .before .before in
@@ -161,14 +137,12 @@ add-place c =
     let h : length (a .specified .now) ≤ 2048 = s .pre .1 .1 .1 in
     search needs
 
--- src/lib.rt:68:5
 loop-less : tie.Need-loop-less Inv-loop μ-loop
 loop-less c =
     let i = c .before .before .before .before .before .before .before in
     let k : 0 < c .before .before .before .reach .result .slices = omega (arith, c .before .if1 .left) in
     omega (arith, i .loop-test .taken)
 
--- src/lib.rt:68:5
 loop-again : tie.Need-loop-again Inv-loop μ-loop
 loop-again c =
     let i = c .before .before .before .before .before .before .before in
@@ -182,11 +156,9 @@ loop-again c =
     let n = set-long (a .settings) (a .masks .now) (a .stop) (a .specified .now) (a .bits .now) (s .pre .1 .0) in
     gathering-next (machine (a .settings) (a .masks .now)) (rules (a .settings) (a .stop)) (paired (a .specified .now) (a .bits .now)) (a .seeds .now) (l .place) (l .count) (l .seeds) (omega (arith, i .loop-test .taken)) (l .inv) (r .result .slices) (r .result .seed) k (w .end) (w .within) (w .seed k)
 
--- src/lib.rt:48:1
 same-length-2 : tie.Need-same-length-2 Inv-loop μ-loop
 same-length-2 c = search needs
 
--- src/lib.rt:48:1
 returns-2 : tie.Need-returns-2 Inv-loop μ-loop
 returns-2 c =
     let s = c .before .before .before .before .before .before .before .before in

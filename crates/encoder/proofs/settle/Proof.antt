@@ -1,37 +1,29 @@
-use native.Mathlib.Omega.{arith}
-use mathlib.Core.Path.{sym, _∙_}
+-- `encoder::settle` meets its contract. Assumes nothing.
+use mathlib.Core.Path.{_∙_}
+use borrow.Author.Needs.{needs}
 use Rattle.encoder.specs.Code.{settled}
 use Rattle.encoder.proofs.Settling.{settled-stuck, settled-short, settled-whole}
 use Rattle.expander.proofs.Outcomes.{refused-parts, outcome-parts}
-use borrow.Author.Needs.{needs}
 use Rattle.encoder.proofs.settle.Statement.{statement}
 use Rattle.encoder.proofs.settle.Tie as tie
-use Rattle.encoder.proofs.settle.Reads as reads
-use Rattle.encoder.proofs.settle.Lts as lts
-use Rattle.encoder.proofs.copy.Reads as copy-reads
 
--- src/lib.rt:111:9
 returns : tie.Need-returns
 returns c =
     let a = c .before .before .before .before .args in
     refused-parts (settled (a .slices) (a .gathered) (a .seeds .now) (a .out .now)) _ (a .out .now) (settled-stuck (a .slices) (a .gathered) (a .seeds .now) (a .out .now) (c .if1 .taken))
 
--- src/lib.rt:114:9
 returns-2 : tie.Need-returns-2
 returns-2 c =
     let s = c .before .before .before .before .before in
     let a = s .args in
     refused-parts (settled (a .slices) (a .gathered) (a .seeds .now) (a .out .now)) _ (a .out .now) (settled-short (a .slices) (a .gathered) (a .seeds .now) (a .out .now) (c .before .if1 .left) (s .pre) (c .if2 .taken))
 
--- src/lib.rt:116:5
 copy-requires : tie.Need-copy-requires
 copy-requires c κs = search needs
 
--- src/lib.rt:104:1
 same-length : tie.Need-same-length
 same-length c = search needs
 
--- src/lib.rt:104:1
 returns-3 : tie.Need-returns-3
 returns-3 c =
     let s = c .before .before .before .before .before .before .before .before .before in

@@ -1,25 +1,19 @@
-use mathlib.Core.Path.{sym, ap}
-use Rattle.encoder.specs.Encoding.{stopped}
+-- `encoder::with_stop` meets its contract. Assumes nothing.
 use borrow.Author.Needs.{needs}
+use Rattle.encoder.specs.Encoding.{stopped}
 use Rattle.encoder.proofs.with_stop.Statement.{statement}
 use Rattle.encoder.proofs.with_stop.Tie as tie
-use Rattle.encoder.proofs.with_stop.Reads as reads
-use Rattle.encoder.proofs.with_stop.Lts as lts
 
--- src/lib.rt:173:24
 enum-known-written : tie.Need-enum-known-written
 enum-known-written c = search needs
 
--- src/lib.rt:174:26
 enum-known-written-2 : tie.Need-enum-known-written-2
 enum-known-written-2 c = search needs
 
--- src/lib.rt:169:1
 returns : tie.Need-returns
 unfolding stopped
 returns c = rw (c .before .written .given .1)
 
--- src/lib.rt:169:1
 returns-2 : tie.Need-returns-2
 unfolding stopped
 returns-2 c = rw (c .before .written2 .given .1)

@@ -1,26 +1,25 @@
-use Rattle.search.specs.Search.{lower, lowestClear}
-use Rattle.space.proofs.Taking.{taken-left}
-use borrow.Author.Needs.{needs}
-use native.Mathlib.Omega.{arith}
-use Prim.Native.Nat.{_-_, _+_, _*_, _≤_}
-use mathlib.Core.Path.{_≡_, refl, sym, _∙_, subst, ap}
+-- `search::lowest_clear` meets its contract. Assumes nothing.
+use mathlib.Core.Path.{_≡_, sym, _∙_, ap}
 use mathlib.Core.Logic.{⊎-elim}
+use Prim.Native.Nat.{_-_, _+_, _*_, ℕ, _<_}
+use native.Mathlib.Omega.{arith}
 use lib.ListN.{getD, length, take}
-use Rattle.space.specs.Space.{pivot, without}
+use borrow.Author.Needs.{needs}
+use borrow.Fn.Kinds.{In}
+use borrow.Fn.PlainCycle.{Measures, is, falls, and}
+use Rattle.space.proofs.Taking.{taken-left}
+use Rattle.space.specs.Space.{pivot}
 use Rattle.space.specs.declared.Taken.{Taken}
 use Rattle.search.proofs.Reading.{row-fits}
 use Rattle.search.proofs.Branching.{first-none, first-some, finds-lowest-clear, lowest-clear-finds, finds-pruned, finds-lowest, Branched, branched-start, branched-same, branched-child, child-rising, child-shorter, branched-end}
-use Prim.Native.Nat.{ℕ, _<_}
-use borrow.Fn.Kinds.{In}
-use borrow.Fn.PlainCycle.{Measures, is, falls, and}
+use Rattle.search.proofs.+lowest_clear.{statement}
+use Rattle.search.proofs.+lowest_clear.Tie.{close}
 use Rattle.search.proofs.lowest_clear.Reads as lowest-clear
 use Rattle.search.proofs.lowest_clear.Kinds as lowest-clear-kinds
 use Rattle.search.proofs.+lowest_clear.Lts-lowest_clear as lowest-clear-lts
 use Rattle.search.proofs.first_shown.Reads as first-shown-reads
 use Rattle.search.proofs.reached.Reads as reached-reads
 use Rattle.space.proofs.take_out.Reads as take-out-reads
-use Rattle.search.proofs.+lowest_clear.{statement}
-use Rattle.search.proofs.+lowest_clear.Tie.{close}
 
 abbrev μ-lowest-clear : Measures 1 lowest-clear-kinds.ps ℕ
 μ-lowest-clear κs a = length (take (a .1 .1 .1 .1 .1 .0) (a .1 .1 .1 .1 .0))
@@ -45,7 +44,6 @@ abbrev lowest-clear-μ-loop : lowest-clear-lts.MeasureT-loop
 lowest-clear-μ-loop pattern table rows lowest free row columns first rest₀ left₀ found₀ column₀ rest left found column =
     columns - column
 
--- src/lib.rt:81:8
 lowest-clear-reached-requires : (t : ℕ) → lowest-clear-lts.Need-reached-requires (
   reached-reads.Asked,
   reached-reads.Learnt,
@@ -58,7 +56,6 @@ lowest-clear-reached-requires : (t : ℕ) → lowest-clear-lts.Need-reached-requ
 ) (lowest-clear-at t) lowest-clear.Post lowest-clear-Inv-loop lowest-clear-μ-loop
 lowest-clear-reached-requires t c κs = search needs
 
--- src/lib.rt:82:9
 lowest-clear-returns : (t : ℕ) → lowest-clear-lts.Need-returns (
   reached-reads.Asked,
   reached-reads.Learnt,
@@ -75,7 +72,6 @@ lowest-clear-returns t c =
     finds-lowest-clear (a .pattern) (a .table .now) (a .rows) (a .lowest) (take (a .free) (a .vectors)) (a .before) (a .before)
     (finds-pruned (a .pattern) (a .table .now) (a .rows) (a .lowest) (take (a .free) (a .vectors)) (a .before) (s .pre .1 .0) (sym (c .before .reached .ensures) ∙ c .if1 .taken))
 
--- src/lib.rt:84:9
 lowest-clear-first-shown-requires : (t : ℕ) → lowest-clear-lts.Need-first-shown-requires (
   reached-reads.Asked,
   reached-reads.Learnt,
@@ -88,7 +84,6 @@ lowest-clear-first-shown-requires : (t : ℕ) → lowest-clear-lts.Need-first-sh
 ) (lowest-clear-at t) lowest-clear.Post lowest-clear-Inv-loop lowest-clear-μ-loop
 lowest-clear-first-shown-requires t c κs = search needs
 
--- src/lib.rt:86:9
 lowest-clear-returns-2 : (t : ℕ) → lowest-clear-lts.Need-returns-2 (
   reached-reads.Asked,
   reached-reads.Learnt,
@@ -107,7 +102,6 @@ lowest-clear-returns-2 t c =
     (sym (c .before .before .before .reached .ensures) ∙ c .before .before .if1 .left)
     (first-none (a .pattern) (a .table .now) (a .rows) (a .lowest) (c .before .first-shown .result) (c .before .first-shown .ensures) (c .if2 .taken)))
 
--- src/lib.rt:89:17
 lowest-clear-mul-first : (t : ℕ) → lowest-clear-lts.Need-mul-first (
   reached-reads.Asked,
   reached-reads.Learnt,
@@ -126,7 +120,6 @@ lowest-clear-mul-first t c =
     let g = row-fits (r .result) (a .rows) (a .pattern .columns) (length (a .table .now)) (f .0) (s .pre .1 .1) in
     search needs
 
--- src/lib.rt:94:5
 lowest-clear-loop-holds : (t : ℕ) → lowest-clear-lts.Need-loop-holds (
   reached-reads.Asked,
   reached-reads.Learnt,
@@ -142,7 +135,6 @@ lowest-clear-loop-holds t c =
     let a = s .args in
     (search needs, branched-start (a .pattern) (a .table .now) (a .rows) (a .lowest) (take (a .free) (a .vectors)) (a .before) (c .before .first-shown .result) (s .pre .1 .0))
 
--- src/lib.rt:95:37
 lowest-clear-slice-aggregate-take-out : (t : ℕ) → lowest-clear-lts.Need-slice-aggregate-take-out (
   reached-reads.Asked,
   reached-reads.Learnt,
@@ -155,7 +147,6 @@ lowest-clear-slice-aggregate-take-out : (t : ℕ) → lowest-clear-lts.Need-slic
 ) (lowest-clear-at t) lowest-clear.Post lowest-clear-Inv-loop lowest-clear-μ-loop
 lowest-clear-slice-aggregate-take-out t c = search needs
 
--- src/lib.rt:95:60
 lowest-clear-add-take-out : (t : ℕ) → lowest-clear-lts.Need-add-take-out (
   reached-reads.Asked,
   reached-reads.Learnt,
@@ -175,7 +166,6 @@ lowest-clear-add-take-out t c =
     let g = row-fits (r .result) (a .rows) (a .pattern .columns) (length (a .table .now)) (f .0) (s .pre .1 .1) in
     search needs
 
--- src/lib.rt:95:54
 lowest-clear-mul-take-out : (t : ℕ) → lowest-clear-lts.Need-mul-take-out (
   reached-reads.Asked,
   reached-reads.Learnt,
@@ -195,7 +185,6 @@ lowest-clear-mul-take-out t c =
     let g = row-fits (r .result) (a .rows) (a .pattern .columns) (length (a .table .now)) (f .0) (s .pre .1 .1) in
     search needs
 
--- src/lib.rt:95:54
 lowest-clear-shared-slice-read-take-out :
     (t : ℕ) → lowest-clear-lts.Need-shared-slice-read-take-out (
       reached-reads.Asked,
@@ -216,7 +205,6 @@ lowest-clear-shared-slice-read-take-out t c =
     let g = row-fits (r .result) (a .rows) (a .pattern .columns) (length (a .table .now)) (f .0) (s .pre .1 .1) in
     search needs
 
--- src/lib.rt:95:13
 lowest-clear-take-out-requires : (t : ℕ) → lowest-clear-lts.Need-take-out-requires (
   reached-reads.Asked,
   reached-reads.Learnt,
@@ -229,7 +217,6 @@ lowest-clear-take-out-requires : (t : ℕ) → lowest-clear-lts.Need-take-out-re
 ) (lowest-clear-at t) lowest-clear.Post lowest-clear-Inv-loop lowest-clear-μ-loop
 lowest-clear-take-out-requires t c κs = search needs
 
--- src/lib.rt:98:13
 lowest-clear-lowest-clear-requires : (t : ℕ) → lowest-clear-lts.Need-lowest-clear-requires (
   reached-reads.Asked,
   reached-reads.Learnt,
@@ -257,7 +244,6 @@ lowest-clear-lowest-clear-requires t c κs =
       (rw (w, e) (child-rising (a .pattern) (a .table .now) (a .rows) (a .lowest) (take (a .free) (a .vectors)) (a .before) (r .result) (take (l .left) (l .rest)) (l .found) (l .found) (l .column) lt n (l .inv .1)), s .pre .1 .1),
     )
 
--- src/lib.rt:108:9
 lowest-clear-add-column : (t : ℕ) → lowest-clear-lts.Need-add-column (
   reached-reads.Asked,
   reached-reads.Learnt,
@@ -270,7 +256,6 @@ lowest-clear-add-column : (t : ℕ) → lowest-clear-lts.Need-add-column (
 ) (lowest-clear-at t) lowest-clear.Post lowest-clear-Inv-loop lowest-clear-μ-loop
 lowest-clear-add-column t c = search needs
 
--- src/lib.rt:94:5
 lowest-clear-loop-less : (t : ℕ) → lowest-clear-lts.Need-loop-less (
   reached-reads.Asked,
   reached-reads.Learnt,
@@ -283,7 +268,6 @@ lowest-clear-loop-less : (t : ℕ) → lowest-clear-lts.Need-loop-less (
 ) (lowest-clear-at t) lowest-clear.Post lowest-clear-Inv-loop lowest-clear-μ-loop
 lowest-clear-loop-less t c = search needs
 
--- src/lib.rt:94:5
 lowest-clear-loop-again : (t : ℕ) → lowest-clear-lts.Need-loop-again (
   reached-reads.Asked,
   reached-reads.Learnt,
@@ -314,7 +298,6 @@ lowest-clear-loop-again t c =
           (c .if3 .came)),
     )
 
--- src/lib.rt:68:1
 lowest-clear-returns-3 : (t : ℕ) → lowest-clear-lts.Need-returns-3 (
   reached-reads.Asked,
   reached-reads.Learnt,

@@ -1,19 +1,17 @@
-use borrow.Author.Needs.{needs}
-use native.Mathlib.Omega.{arith}
-use Prim.Native.Nat.{ℕ, _-_, _≤_}
+-- `search::first_shown` meets its contract. Assumes nothing.
 use mathlib.Core.Path.{_≡_, sym, _∙_}
-use mathlib.Core.Bool.{true, false}
-use borrow.Author.Count.{below-more}
+use mathlib.Core.Bool.{false}
+use Prim.Native.Nat.{ℕ, _-_, _≤_}
+use native.Mathlib.Omega.{arith}
 use lib.ListN.{length}
+use borrow.Author.Needs.{needs}
+use borrow.Author.Count.{below-more}
 use Rattle.bounded.specs.Bounded.{NoneBelow}
 use Rattle.search.specs.Clauses.{shown}
 use Rattle.search.proofs.Reading.{row-fits}
 use Rattle.search.proofs.Branching.{shown-first, shown-never}
 use Rattle.search.proofs.first_shown.Statement.{statement}
 use Rattle.search.proofs.first_shown.Tie as tie
-use Rattle.search.proofs.first_shown.Reads as reads
-use Rattle.search.proofs.first_shown.Lts as lts
-use Rattle.search.proofs.shown.Reads as shown-reads
 
 abbrev Inv-loop : tie.InvT-loop
 Inv-loop pattern table rows state row₀ row = (row ≤ rows) × NoneBelow (λ t. shown pattern table t state) row
@@ -21,17 +19,14 @@ Inv-loop pattern table rows state row₀ row = (row ≤ rows) × NoneBelow (λ t
 abbrev μ-loop : tie.MeasureT-loop
 μ-loop pattern table rows state row₀ row = rows - row
 
--- src/lib.rt:57:5
 loop-holds : tie.Need-loop-holds Inv-loop μ-loop
 loop-holds c = (omega arith, λ k h. absurd (omega arith))
 
--- src/lib.rt:58:12
 shown-requires : tie.Need-shown-requires Inv-loop μ-loop
 shown-requires c κs =
     let s = c .before .before .before in
     row-fits (c .before .loop .row) (s .args .rows) (s .args .pattern .columns) (length (s .args .table .now)) (omega arith) (s .pre)
 
--- src/lib.rt:59:13
 returns : tie.Need-returns Inv-loop μ-loop
 returns c =
     let s = c .before .before .before .before .before in
@@ -39,15 +34,12 @@ returns c =
     let l = c .before .before .before .loop in
     shown-first (a .pattern) (a .table .now) (a .rows) (a .state) (l .row) (l .inv .1) (omega arith) (sym (c .before .shown .ensures) ∙ c .if1 .taken)
 
--- src/lib.rt:61:9
 add-row : tie.Need-add-row Inv-loop μ-loop
 add-row c = search needs
 
--- src/lib.rt:57:5
 loop-less : tie.Need-loop-less Inv-loop μ-loop
 loop-less c = search needs
 
--- src/lib.rt:57:5
 loop-again : tie.Need-loop-again Inv-loop μ-loop
 loop-again c =
     let s = c .before .before .before .before .before in
@@ -55,7 +47,6 @@ loop-again c =
     let l = c .before .before .before .loop in
     (omega arith, below-more (λ (t : ℕ). shown (a .pattern) (a .table .now) t (a .state) ≡ false) (l .row) (l .inv .1) (sym (c .before .shown .ensures) ∙ c .if1 .left))
 
--- src/lib.rt:52:1
 returns-2 : tie.Need-returns-2 Inv-loop μ-loop
 returns-2 c =
     let s = c .before .before .before in

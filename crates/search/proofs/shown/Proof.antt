@@ -1,15 +1,13 @@
-use borrow.Author.Needs.{needs}
-use native.Mathlib.Omega.{arith}
-use Prim.Native.Nat.{_-_, _≤_}
+-- `search::shown` meets its contract. Assumes nothing.
 use mathlib.Core.Path.{_≡_, refl, sym, _∙_}
+use Prim.Native.Nat.{_-_, _≤_}
+use native.Mathlib.Omega.{arith}
 use lib.ListN.{drop}
+use borrow.Author.Needs.{needs}
 use Rattle.search.specs.Clauses.{reads as readsOf, shown, row as rowOf}
 use Rattle.search.proofs.Reading.{reads-next, reads-differs, reads-end}
 use Rattle.search.proofs.shown.Statement.{statement}
 use Rattle.search.proofs.shown.Tie as tie
-use Rattle.search.proofs.shown.Reads as reads
-use Rattle.search.proofs.shown.Lts as lts
-use Rattle.gf2.proofs.odd.Reads as odd-reads
 
 abbrev Inv-loop : tie.InvT-loop
 Inv-loop table row state columns first bits₀ column₀ bits column = (column ≤ columns) × (readsOf (rowOf columns table row) bits₀ state ≡ readsOf (drop column (rowOf columns table row)) bits state)
@@ -17,31 +15,24 @@ Inv-loop table row state columns first bits₀ column₀ bits column = (column �
 abbrev μ-loop : tie.MeasureT-loop
 μ-loop table row state columns first bits₀ column₀ bits column = columns - column
 
--- src/lib.rt:38:17
 mul-first : tie.Need-mul-first Inv-loop μ-loop
 mul-first c = search needs
 
--- src/lib.rt:41:5
 loop-holds : tie.Need-loop-holds Inv-loop μ-loop
 loop-holds c = (omega arith, refl)
 
--- src/lib.rt:42:34
 add-odd : tie.Need-add-odd Inv-loop μ-loop
 add-odd c = search needs
 
--- src/lib.rt:42:28
 mul-odd : tie.Need-mul-odd Inv-loop μ-loop
 mul-odd c = search needs
 
--- src/lib.rt:42:28
 shared-slice-read-odd : tie.Need-shared-slice-read-odd Inv-loop μ-loop
 shared-slice-read-odd c = search needs
 
--- src/lib.rt:42:12
 odd-requires : tie.Need-odd-requires Inv-loop μ-loop
 odd-requires c κs = search needs
 
--- src/lib.rt:43:13
 returns : tie.Need-returns Inv-loop μ-loop
 unfolding shown
 returns c =
@@ -50,15 +41,12 @@ returns c =
     let l = c .before .before .before .before .loop in
     reads-differs (a .pattern .columns) (a .table .now) (a .row) (s .pre) (a .state) (l .column) (l .bits) (omega arith) (λ e. c .if1 .taken (c .before .odd .ensures ∙ e)) ∙ sym (l .inv .1)
 
--- src/lib.rt:46:9
 add-column : tie.Need-add-column Inv-loop μ-loop
 add-column c = search needs
 
--- src/lib.rt:41:5
 loop-less : tie.Need-loop-less Inv-loop μ-loop
 loop-less c = search needs
 
--- src/lib.rt:41:5
 loop-again : tie.Need-loop-again Inv-loop μ-loop
 loop-again c =
     let s = c .before .before .before .before .before .before in
@@ -66,7 +54,6 @@ loop-again c =
     let l = c .before .before .before .before .loop in
     (omega arith, l .inv .1 ∙ reads-next (a .pattern .columns) (a .table .now) (a .row) (s .pre) (a .state) (l .column) (l .bits) (omega arith) (sym (c .before .odd .ensures) ∙ c .if1 .left))
 
--- src/lib.rt:33:1
 returns-2 : tie.Need-returns-2 Inv-loop μ-loop
 unfolding shown
 returns-2 c =

@@ -1,21 +1,15 @@
-use Prim.Native.Nat.{ℕ, _+_}
-use mathlib.Core.Path.{_∙_, sym, ap}
-use lib.ListN.{length-set, getD, take, drop}
-use mathlib.Core.List.{List, map}
-use lib.Seq.{sets}
-use Rattle.space.proofs.Taking.{close-next, close-end}
-use borrow.Author.Needs.{needs}
+-- `space::close_up` meets its contract. Assumes nothing.
+use mathlib.Core.Path.{_∙_, sym, ap, _≡_, refl}
+use mathlib.Core.List.{map}
+use Prim.Native.Nat.{ℕ, _+_, _-_, _<_, _≤_}
 use native.Mathlib.Omega.{arith}
-use Prim.Native.Nat.{_-_, _<_, _≤_}
-use mathlib.Core.Path.{_≡_, refl}
-use lib.ListN.{length}
+use lib.ListN.{length-set, getD, take, drop, length}
+use lib.Seq.{sets}
+use borrow.Author.Needs.{needs}
+use Rattle.space.proofs.Taking.{close-next, close-end, Written}
 use Rattle.space.specs.Space.{added}
-use Rattle.space.proofs.Taking.{Written}
 use Rattle.space.proofs.close_up.Statement.{statement}
 use Rattle.space.proofs.close_up.Tie as tie
-use Rattle.space.proofs.close_up.Reads as reads
-use Rattle.space.proofs.close_up.Lts as lts
-use Rattle.space.proofs.added.Reads as added-reads
 
 abbrev Inv-loop : tie.InvT-loop
 Inv-loop vectors₀ free place mask pivot next₀ vectors next = (0 < next) × (next ≤ free) × (length vectors ≡ length vectors₀) × (Written (added mask pivot) free vectors next ≡ Written (added mask pivot) free vectors₀ next₀)
@@ -23,55 +17,42 @@ Inv-loop vectors₀ free place mask pivot next₀ vectors next = (0 < next) × (
 abbrev μ-loop : tie.MeasureT-loop
 μ-loop vectors₀ free place mask pivot next₀ vectors next = free - next
 
--- src/lib.rt:67:17
 mul-pivot : tie.Need-mul-pivot Inv-loop μ-loop
 mul-pivot c = search needs
 
--- src/lib.rt:67:17
 slice-read-pivot : tie.Need-slice-read-pivot Inv-loop μ-loop
 slice-read-pivot c = search needs
 
--- src/lib.rt:68:20
 add-next : tie.Need-add-next Inv-loop μ-loop
 add-next c = search needs
 
--- src/lib.rt:69:5
 loop-holds : tie.Need-loop-holds Inv-loop μ-loop
 loop-holds c = (omega arith, omega arith, refl, refl)
 
--- src/lib.rt:70:41
 mul-added : tie.Need-mul-added Inv-loop μ-loop
 mul-added c = search needs
 
--- src/lib.rt:70:41
 slice-read-added : tie.Need-slice-read-added Inv-loop μ-loop
 slice-read-added c = search needs
 
--- src/lib.rt:70:13
 added-requires : tie.Need-added-requires Inv-loop μ-loop
 added-requires c κs = search needs
 
--- src/lib.rt:71:17
 sub-vectors : tie.Need-sub-vectors Inv-loop μ-loop
 sub-vectors c = search needs
 
--- src/lib.rt:71:9
 mul-vectors : tie.Need-mul-vectors Inv-loop μ-loop
 mul-vectors c = search needs
 
--- src/lib.rt:71:9
 slice-write-vectors : tie.Need-slice-write-vectors Inv-loop μ-loop
 slice-write-vectors c = search needs
 
--- src/lib.rt:72:9
 add-next-2 : tie.Need-add-next-2 Inv-loop μ-loop
 add-next-2 c = search needs
 
--- src/lib.rt:69:5
 loop-less : tie.Need-loop-less Inv-loop μ-loop
 loop-less c = search needs
 
--- src/lib.rt:69:5
 loop-again : tie.Need-loop-again Inv-loop μ-loop
 loop-again c =
     let l = c .before .before .before .loop in
@@ -83,11 +64,9 @@ loop-again c =
       rw (c .added .ensures) (close-next g (a .free) (l .vectors) (l .next) (omega arith) (omega arith) (omega arith)) ∙ l .inv .3,
     )
 
--- src/lib.rt:63:1
 same-length : tie.Need-same-length Inv-loop μ-loop
 same-length c = search needs
 
--- src/lib.rt:63:1
 returns : tie.Need-returns Inv-loop μ-loop
 returns c =
     let l = c .before .loop in

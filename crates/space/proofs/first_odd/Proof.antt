@@ -1,18 +1,14 @@
+-- `space::first_odd` meets its contract. Assumes nothing.
+use mathlib.Core.Path.{_≡_, sym, _∙_}
+use Prim.Native.Nat.{_-_}
+use native.Mathlib.Omega.{arith}
+use lib.ListN.{getD}
+use borrow.Author.Needs.{needs}
 use Rattle.gf2.specs.Words.{odd}
 use Rattle.gf2.proofs.Parity.{odd-lt}
-use mathlib.Core.Path.{_≡_, sym, _∙_}
-use lib.ListN.{getD}
-use Rattle.space.proofs.Taking.{odd-start, odd-here, odd-next, odd-end}
-use borrow.Author.Needs.{needs}
-use native.Mathlib.Omega.{arith}
-use Prim.Native.Nat.{_-_}
-use mathlib.Core.Path.{refl}
-use Rattle.space.proofs.Taking.{Passed}
+use Rattle.space.proofs.Taking.{odd-start, odd-here, odd-next, odd-end, Passed}
 use Rattle.space.proofs.first_odd.Statement.{statement}
 use Rattle.space.proofs.first_odd.Tie as tie
-use Rattle.space.proofs.first_odd.Reads as reads
-use Rattle.space.proofs.first_odd.Lts as lts
-use Rattle.gf2.proofs.odd.Reads as odd-reads
 
 abbrev Inv-loop : tie.InvT-loop
 Inv-loop vectors free mask place₀ place = Passed mask vectors free place
@@ -20,38 +16,30 @@ Inv-loop vectors free mask place₀ place = Passed mask vectors free place
 abbrev μ-loop : tie.MeasureT-loop
 μ-loop vectors free mask place₀ place = free - place
 
--- src/lib.rt:42:5
 loop-holds : tie.Need-loop-holds Inv-loop μ-loop
 loop-holds c = odd-start (c .before .args .mask) (c .before .args .vectors .now) (c .before .args .free) (c .before .pre)
 
--- src/lib.rt:43:21
 mul-odd : tie.Need-mul-odd Inv-loop μ-loop
 mul-odd c = search needs
 
--- src/lib.rt:43:21
 shared-slice-read-odd : tie.Need-shared-slice-read-odd Inv-loop μ-loop
 shared-slice-read-odd c = search needs
 
--- src/lib.rt:43:12
 odd-requires : tie.Need-odd-requires Inv-loop μ-loop
 odd-requires c κs = search needs
 
--- src/lib.rt:44:13
 returns : tie.Need-returns Inv-loop μ-loop
 returns c =
     let s = c .before .before .before .before .before .before in
     let l = c .before .before .before .before .loop in
     odd-here (s .args .mask) (s .args .vectors .now) (s .args .free) (s .pre) (l .place) (l .inv) (omega arith) (sym (c .before .odd .ensures) ∙ c .if1 .taken)
 
--- src/lib.rt:46:9
 add-place : tie.Need-add-place Inv-loop μ-loop
 add-place c = search needs
 
--- src/lib.rt:42:5
 loop-less : tie.Need-loop-less Inv-loop μ-loop
 loop-less c = search needs
 
--- src/lib.rt:42:5
 loop-again : tie.Need-loop-again Inv-loop μ-loop
 loop-again c =
     let s = c .before .before .before .before .before .before in
@@ -60,7 +48,6 @@ loop-again c =
     let e : odd v (s .args .mask) ≡ 0 = omega (arith, odd-lt v (s .args .mask)) in
     odd-next (s .args .mask) (s .args .vectors .now) (s .args .free) (s .pre) (l .place) (l .inv) (omega arith) e
 
--- src/lib.rt:37:1
 returns-2 : tie.Need-returns-2 Inv-loop μ-loop
 returns-2 c =
     let s = c .before .before .before in

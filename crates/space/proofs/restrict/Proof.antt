@@ -1,32 +1,22 @@
-use native.Mathlib.Omega.{arith}
+-- `space::restrict` meets its contract. Assumes nothing.
 use lib.ListN.{take}
-use Rattle.space.proofs.Restricting.{restricted-with}
 use borrow.Author.Needs.{needs}
+use Rattle.space.proofs.Restricting.{restricted-with}
 use Rattle.space.proofs.restrict.Statement.{statement}
 use Rattle.space.proofs.restrict.Tie as tie
-use Rattle.space.proofs.restrict.Reads as reads
-use Rattle.space.proofs.restrict.Lts as lts
-use Rattle.gf2.proofs.odd.Reads as odd-reads
-use Rattle.space.proofs.shifted.Reads as shifted-reads
-use Rattle.space.proofs.take_out.Reads as take-out-reads
 
--- src/lib.rt:113:9
 take-out-requires : tie.Need-take-out-requires
 take-out-requires c κs = search needs
 
--- src/lib.rt:114:9
 shifted-requires : tie.Need-shifted-requires
 shifted-requires c κs = search needs
 
--- src/lib.rt:118:29
 odd-requires : tie.Need-odd-requires
 odd-requires c κs = search needs
 
--- src/lib.rt:109:1
 same-length : tie.Need-same-length
 same-length c = search needs
 
--- src/lib.rt:109:1
 returns : tie.Need-returns
 returns c =
     let a = c .before .before .before .before .before .before .before .before .args in
@@ -34,11 +24,9 @@ returns c =
     let x = c .before .before .shifted in
     (restricted-with (a .mask) (a .wanted) (take (a .space .free) (a .vectors .now)) (a .space) (t .result) (x .result) _ (t .ensures .0) (x .ensures) (rw (c .before .if1 .taken, c .odd .ensures)), t .ensures .1)
 
--- src/lib.rt:109:1
 same-length-2 : tie.Need-same-length-2
 same-length-2 c = search needs
 
--- src/lib.rt:109:1
 returns-2 : tie.Need-returns-2
 returns-2 c =
     let a = c .before .before .before .before .before .before .before .args in

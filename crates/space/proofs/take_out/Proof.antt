@@ -1,33 +1,22 @@
-use Rattle.space.proofs.Taking.{place-lt}
-use Prim.Native.Nat.{_<_}
+-- `space::take_out` meets its contract. Assumes nothing.
+use mathlib.Core.Path.{sym, _∙_, ap₂}
+use Prim.Native.Nat.{_<_, ℕ}
 use native.Mathlib.Omega.{arith}
-use mathlib.Core.Path.{sym, _∙_, ap₂, ap}
-use Prim.Native.Nat.{ℕ, _≤_}
-use lib.ListN.{length}
-use Rattle.space.specs.declared.Taken.{Taken}
-use Rattle.space.proofs.Taking.{place-within, taken-none, taken-some}
 use borrow.Author.Needs.{needs}
+use Rattle.space.proofs.Taking.{place-lt, taken-none, taken-some}
+use Rattle.space.specs.declared.Taken.{Taken}
 use Rattle.space.proofs.take_out.Statement.{statement}
 use Rattle.space.proofs.take_out.Tie as tie
-use Rattle.space.proofs.take_out.Reads as reads
-use Rattle.space.proofs.take_out.Lts as lts
-use Rattle.bounded.proofs.lesser.Reads as lesser-reads
-use Rattle.space.proofs.close_up.Reads as close-up-reads
-use Rattle.space.proofs.first_odd.Reads as first-odd-reads
 
--- src/lib.rt:81:9
 lesser-requires : tie.Need-lesser-requires
 lesser-requires c κs = search needs
 
--- src/lib.rt:82:9
 first-odd-requires : tie.Need-first-odd-requires
 first-odd-requires c κs = search needs
 
--- src/lib.rt:84:9
 same-length : tie.Need-same-length
 same-length c = search needs
 
--- src/lib.rt:84:9
 returns : tie.Need-returns
 returns c =
     let a = c .before .before .before .before .before .args in
@@ -35,26 +24,22 @@ returns c =
     let taken : ℕ → ℕ → Taken = λ p n. record { pivot = p; left = n } in
     (ap₂ taken (r .0) (r .1), r .2)
 
--- src/lib.rt:89:17
 mul-pivot : tie.Need-mul-pivot
 mul-pivot c =
     let a = c .before .before .before .before .before .args in
     let h : c .before .first-odd .result < c .before .before .before .lesser .result = place-lt (a .mask) (a .vectors .now) (c .before .before .before .lesser .result) (c .before .first-odd .result) (omega arith) (c .before .first-odd .ensures) (c .if1 .left) in
     search needs
 
--- src/lib.rt:89:17
 slice-read-pivot : tie.Need-slice-read-pivot
 slice-read-pivot c =
     let a = c .before .before .before .before .before .before .args in
     omega (arith, place-lt (a .mask) (a .vectors .now) (c .before .before .before .before .lesser .result) (c .before .before .first-odd .result) (omega arith) (c .before .before .first-odd .ensures) (c .before .if1 .left))
 
--- src/lib.rt:90:5
 close-up-requires : tie.Need-close-up-requires
 close-up-requires c κs =
     let a = c .before .before .before .before .before .before .before .args in
     (place-lt (a .mask) (a .vectors .now) (c .before .before .before .before .before .lesser .result) (c .before .before .before .first-odd .result) (omega arith) (c .before .before .before .first-odd .ensures) (c .before .before .if1 .left), omega arith)
 
--- src/lib.rt:93:15
 sub-t7 : tie.Need-sub-t7
 sub-t7 c =
     let s = c .before .before .before .before .before in
@@ -63,11 +48,9 @@ sub-t7 c =
     let i = s .before .first-odd in
     omega (arith, place-lt (a .mask) (a .vectors .now) (n .result) (i .result) (omega arith) (i .ensures) (s .if1 .left))
 
--- src/lib.rt:77:1
 same-length-2 : tie.Need-same-length-2
 same-length-2 c = search needs
 
--- src/lib.rt:77:1
 returns-2 : tie.Need-returns-2
 returns-2 c =
     let s = c .before .before .before .before .before in

@@ -1,13 +1,12 @@
-use borrow.Author.Needs.{needs}
-use native.Mathlib.Omega.{arith}
-use Prim.Native.Nat.{_-_}
-use lib.ListN.{length}
+-- `table::choose` meets its contract. Assumes nothing.
 use mathlib.Core.Logic.{⊎-elim}
+use Prim.Native.Nat.{_-_}
+use native.Mathlib.Omega.{arith}
+use lib.ListN.{length}
+use borrow.Author.Needs.{needs}
 use Rattle.table.proofs.Choosing.{Choosing, choosing-start, choosing-take, choosing-skip, choosing-end}
 use Rattle.table.proofs.choose.Statement.{statement}
 use Rattle.table.proofs.choose.Tie as tie
-use Rattle.table.proofs.choose.Reads as reads
-use Rattle.table.proofs.choose.Lts as lts
 
 abbrev Inv-loop : tie.InvT-loop
 Inv-loop specified masks chosen₀ left₀ count₀ chain₀ chosen left count chain = Choosing specified masks chosen₀ left count chain chosen
@@ -15,39 +14,30 @@ Inv-loop specified masks chosen₀ left₀ count₀ chain₀ chosen left count c
 abbrev μ-loop : tie.MeasureT-loop
 μ-loop specified masks chosen₀ left₀ count₀ chain₀ chosen left count chain = length masks - chain
 
--- src/lib.rt:60:5
 loop-holds : tie.Need-loop-holds Inv-loop μ-loop
 loop-holds c = choosing-start (c .args .specified) (c .args .masks .now) (c .args .chosen .now)
 
--- src/lib.rt:62:29
 mul-chosen : tie.Need-mul-chosen Inv-loop μ-loop
 mul-chosen c = search needs
 
--- src/lib.rt:62:29
 shared-slice-read-chosen : tie.Need-shared-slice-read-chosen Inv-loop μ-loop
 shared-slice-read-chosen c = search needs
 
--- src/lib.rt:62:13
 mul-chosen-2 : tie.Need-mul-chosen-2 Inv-loop μ-loop
 mul-chosen-2 c = search needs
 
--- src/lib.rt:62:13
 slice-write-chosen : tie.Need-slice-write-chosen Inv-loop μ-loop
 slice-write-chosen c = search needs
 
--- src/lib.rt:63:13
 add-count : tie.Need-add-count Inv-loop μ-loop
 add-count c = search needs
 
--- src/lib.rt:66:9
 add-chain : tie.Need-add-chain Inv-loop μ-loop
 add-chain c = search needs
 
--- src/lib.rt:60:5
 loop-less : tie.Need-loop-less Inv-loop μ-loop
 loop-less c = search needs
 
--- src/lib.rt:60:5
 loop-again : tie.Need-loop-again Inv-loop μ-loop
 loop-again c =
     let a = c .before .before .before .args in
@@ -57,11 +47,9 @@ loop-again c =
     (λ w. rw (w .1, w .2) (choosing-skip (a .specified) (a .masks .now) (a .chosen .now) (l .left) (l .count) (l .chain) (l .chosen) (omega arith) (l .inv) (w .0 .left)))
     (c .if1 .came)
 
--- src/lib.rt:52:1
 same-length : tie.Need-same-length Inv-loop μ-loop
 same-length c = search needs
 
--- src/lib.rt:52:1
 returns : tie.Need-returns Inv-loop μ-loop
 returns c =
     let s = c .before .before in

@@ -1,13 +1,11 @@
-use borrow.Author.Needs.{needs}
-use native.Mathlib.Omega.{arith}
+-- `table::fill` meets its contract. Assumes nothing.
+use mathlib.Core.Path.{_∙_}
 use Prim.Native.Nat.{_-_}
-use mathlib.Core.Path.{_∙_, sym}
+use native.Mathlib.Omega.{arith}
+use borrow.Author.Needs.{needs}
 use Rattle.table.proofs.Filling.{Filled, filled-start, filled-length, filled-entry, filled-next, filled-end}
 use Rattle.table.proofs.fill.Statement.{statement}
 use Rattle.table.proofs.fill.Tie as tie
-use Rattle.table.proofs.fill.Reads as reads
-use Rattle.table.proofs.fill.Lts as lts
-use Rattle.table.proofs.entry.Reads as entry-reads
 
 abbrev Inv-loop : tie.InvT-loop
 Inv-loop taps masks rows table₀ count place₀ table place = Filled taps rows masks table₀ table place
@@ -15,41 +13,33 @@ Inv-loop taps masks rows table₀ count place₀ table place = Filled taps rows 
 abbrev μ-loop : tie.MeasureT-loop
 μ-loop taps masks rows table₀ count place₀ table place = count - place
 
--- src/lib.rt:41:17
 mul-count : tie.Need-mul-count Inv-loop μ-loop
 mul-count c = search needs
 
--- src/lib.rt:43:5
 loop-holds : tie.Need-loop-holds Inv-loop μ-loop
 loop-holds c =
     let s = c .before .before in
     filled-start (s .args .taps) (s .args .rows) (s .args .masks .now) (s .args .table .now) (s .pre)
 
--- src/lib.rt:44:13
 entry-requires : tie.Need-entry-requires Inv-loop μ-loop
 entry-requires c κs =
     let s = c .before .before .before .before .before in
     omega (arith, filled-length (s .args .taps) (s .args .rows) (s .args .masks .now) (s .args .table .now) (s .pre) (c .before .before .loop .table) (c .before .before .loop .place) (c .before .before .loop .inv), s .pre)
 
--- src/lib.rt:45:9
 mul-table : tie.Need-mul-table Inv-loop μ-loop
 mul-table c = search needs
 
--- src/lib.rt:45:9
 slice-write-table : tie.Need-slice-write-table Inv-loop μ-loop
 slice-write-table c =
     let s = c .before .before .before .before .before .before in
     omega (arith, filled-length (s .args .taps) (s .args .rows) (s .args .masks .now) (s .args .table .now) (s .pre) (c .before .before .before .loop .table) (c .before .before .before .loop .place) (c .before .before .before .loop .inv), s .pre)
 
--- src/lib.rt:46:9
 add-place : tie.Need-add-place Inv-loop μ-loop
 add-place c = search needs
 
--- src/lib.rt:43:5
 loop-less : tie.Need-loop-less Inv-loop μ-loop
 loop-less c = search needs
 
--- src/lib.rt:43:5
 loop-again : tie.Need-loop-again Inv-loop μ-loop
 loop-again c =
     let s = c .before .before .before .before .before .before in
@@ -58,13 +48,11 @@ loop-again c =
     rw (c .entry .ensures ∙ filled-entry (a .taps) (a .rows) (a .masks .now) (a .table .now) (s .pre) (l .table) (l .place) (l .inv) (omega arith))
     (filled-next (a .taps) (a .rows) (a .masks .now) (a .table .now) (s .pre) (l .table) (l .place) (l .inv) (omega arith))
 
--- src/lib.rt:37:1
 same-length : tie.Need-same-length Inv-loop μ-loop
 same-length c =
     let s = c .before .before .before .before in
     filled-length (s .args .taps) (s .args .rows) (s .args .masks .now) (s .args .table .now) (s .pre) (c .before .loop .table) (c .before .loop .place) (c .before .loop .inv)
 
--- src/lib.rt:37:1
 returns : tie.Need-returns Inv-loop μ-loop
 returns c =
     let s = c .before .before .before .before in

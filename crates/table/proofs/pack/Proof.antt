@@ -1,18 +1,13 @@
-use Rattle.gf2.proofs.Digits.{digit-lt}
-use mathlib.Core.Path.{ap, subst}
-use borrow.Author.Needs.{needs}
+-- `table::pack` meets its contract. Assumes nothing.
+use mathlib.Core.Path.{ap, subst, _≡_, _∙_, sym}
+use Prim.Native.Nat.{_-_, _/_, _^_, _≤_, ℕ}
 use native.Mathlib.Omega.{arith}
-use Prim.Native.Nat.{_-_, _+_, _*_, _/_, _^_, _≤_, _<_, ℕ}
-use mathlib.Core.Path.{_≡_, _∙_, sym}
-use mathlib.Core.Logic.{⊎-elim}
+use borrow.Author.Needs.{needs}
+use Rattle.gf2.proofs.Digits.{digit-lt}
 use Rattle.table.specs.Chosen.{packed}
 use Rattle.table.proofs.Packing.{pack-start, pack-take, pack-skip, pack-end, pack-room}
 use Rattle.table.proofs.pack.Statement.{statement}
 use Rattle.table.proofs.pack.Tie as tie
-use Rattle.table.proofs.pack.Reads as reads
-use Rattle.table.proofs.pack.Lts as lts
-use Rattle.bounded.proofs.lesser.Reads as lesser-reads
-use Rattle.gf2.proofs.digit.Reads as digit-reads
 
 abbrev Inv-loop : tie.InvT-loop
 Inv-loop specified bits chains left₀ word₀ left word = (left ≤ left₀) × (word ≡ packed (specified / 2 ^ left) (bits / 2 ^ left) (left₀ - left))
@@ -20,23 +15,18 @@ Inv-loop specified bits chains left₀ word₀ left word = (left ≤ left₀) ×
 abbrev μ-loop : tie.MeasureT-loop
 μ-loop specified bits chains left₀ word₀ left word = left
 
--- src/lib.rt:75:9
 lesser-requires : tie.Need-lesser-requires Inv-loop μ-loop
 lesser-requires c κs = search needs
 
--- src/lib.rt:77:5
 loop-holds : tie.Need-loop-holds Inv-loop μ-loop
 loop-holds c = (omega arith, pack-start (c .before .args .specified) (c .before .args .bits) (c .lesser .result))
 
--- src/lib.rt:78:9
 sub-left : tie.Need-sub-left Inv-loop μ-loop
 sub-left c = search needs
 
--- src/lib.rt:79:12
 digit-requires : tie.Need-digit-requires Inv-loop μ-loop
 digit-requires c κs = search needs
 
--- src/lib.rt:80:20
 mul-word : tie.Need-mul-word Inv-loop μ-loop
 mul-word c =
     let i = c .before .before .before .before in
@@ -44,11 +34,9 @@ mul-word c =
     let r = pack-room (i .before .args .specified) (i .before .args .bits) (i .lesser .result) (l .left) (omega arith) (omega arith) (omega arith) in
     search needs
 
--- src/lib.rt:80:31
 digit-requires-2 : tie.Need-digit-requires-2 Inv-loop μ-loop
 digit-requires-2 c κs = search needs
 
--- src/lib.rt:80:20
 add-word : tie.Need-add-word Inv-loop μ-loop
 add-word c =
     let i = c .before .before .before .before .before in
@@ -57,29 +45,24 @@ add-word c =
     let d = digit-lt (i .before .args .bits) (l .left - 1) in
     search needs
 
--- src/lib.rt:77:5
 loop-less : tie.Need-loop-less Inv-loop μ-loop
 loop-less c = search needs
 
--- src/lib.rt:77:5
 loop-again : tie.Need-loop-again Inv-loop μ-loop
 loop-again c =
     let i = c .before .before .before .before .before in
     let l = c .before .before .before .before .loop in
     (omega arith, rw (l .inv .1, c .digit2 .ensures) (pack-take (i .before .args .specified) (i .before .args .bits) (i .lesser .result) (l .left) (omega arith) (omega arith) (sym (c .before .before .digit .ensures) ∙ c .before .if1 .taken)))
 
--- src/lib.rt:77:5
 loop-less-2 : tie.Need-loop-less-2 Inv-loop μ-loop
 loop-less-2 c = search needs
 
--- src/lib.rt:77:5
 loop-again-2 : tie.Need-loop-again-2 Inv-loop μ-loop
 loop-again-2 c =
     let i = c .before .before .before .before in
     let l = c .before .before .before .loop in
     (omega arith, l .inv .1 ∙ pack-skip (i .before .args .specified) (i .before .args .bits) (i .lesser .result) (l .left) (omega arith) (omega arith) (λ e. c .if1 .left (c .before .digit .ensures ∙ e)))
 
--- src/lib.rt:72:1
 returns : tie.Need-returns Inv-loop μ-loop
 returns c =
     let i = c .before .before in

@@ -1,28 +1,21 @@
+-- `window::allow` meets its contract. Assumes nothing.
 use lib.ListN.{take}
+use borrow.Author.Needs.{needs}
 use Rattle.slices.specs.Slices.{paired}
 use Rattle.window.specs.Code.{allStates}
 use Rattle.window.proofs.Fitting.{long-enough, allowed-closed, allowed-open}
-use borrow.Author.Needs.{needs}
 use Rattle.window.proofs.allow.Statement.{statement}
 use Rattle.window.proofs.allow.Tie as tie
-use Rattle.window.proofs.allow.Reads as reads
-use Rattle.window.proofs.allow.Lts as lts
-use Rattle.window.proofs.fit.Reads as fit-reads
-use Rattle.window.proofs.meet_row.Reads as meet-row-reads
 
--- src/lib.rt:158:9
 fit-requires : tie.Need-fit-requires
 fit-requires c κs = search needs
 
--- src/lib.rt:161:9
 meet-row-requires : tie.Need-meet-row-requires
 meet-row-requires c κs = search needs
 
--- src/lib.rt:161:9
 same-length : tie.Need-same-length
 same-length c = search needs
 
--- src/lib.rt:161:9
 returns : tie.Need-returns
 returns c =
     let s = c .before .before .before .before .before .before .before .before .before .before .before .before .before .before in
@@ -31,11 +24,9 @@ returns c =
     let m = c .before .before .meet-row in
     allowed-closed (a .chains) (a .table .now) (a .stop) (paired (a .specified .now) (a .bits .now)) (allStates (a .cells)) (take (a .cells) (a .vectors .now)) (f .result .space) (take (f .result .space .free) (f .last .0)) (m .result) (take (m .result .free) (m .last .0)) (a .closing) _ (c .before .before .before .before .if1 .taken) (long-enough (a .chains) (a .specified .now) (a .bits .now) (s .pre .0 .0)) (f .ensures .whole) (m .ensures)
 
--- src/lib.rt:139:1
 same-length-2 : tie.Need-same-length-2
 same-length-2 c = search needs
 
--- src/lib.rt:139:1
 returns-2 : tie.Need-returns-2
 returns-2 c =
     let s = c .before .before .before .before .before .before .before .before .before .before in

@@ -1,30 +1,23 @@
-use mathlib.Core.Path.{_≡_, refl, sym, ap, ap₂, _∙_}
+-- `window::fill_clauses` meets its contract. Assumes nothing.
+use mathlib.Core.Path.{_≡_, sym, ap, ap₂, _∙_}
+use Prim.Native.Nat.{ℕ, min}
 use native.Mathlib.Omega.{arith}
-use lib.ListN.{length, take}
+use lib.ListN.{length}
 use lib.Seq.{length-take-le}
-use Prim.Native.Nat.{ℕ, _≤_, min}
+use borrow.Author.Needs.{needs}
 use Rattle.table.specs.Chosen.{packed}
 use Rattle.table.proofs.Choosing.{chosen-few}
 use Rattle.search.specs.declared.Pattern.{Pattern}
 use Rattle.window.proofs.Clauses.{front-chosen, few-entries}
-use borrow.Author.Needs.{needs}
 use Rattle.window.proofs.fill_clauses.Statement.{statement}
 use Rattle.window.proofs.fill_clauses.Tie as tie
-use Rattle.window.proofs.fill_clauses.Reads as reads
-use Rattle.window.proofs.fill_clauses.Lts as lts
-use Rattle.table.proofs.choose.Reads as choose-reads
-use Rattle.table.proofs.fill.Reads as fill-reads
-use Rattle.table.proofs.pack.Reads as pack-reads
 
--- src/lib.rt:52:56
 slice-aggregate-choose : tie.Need-slice-aggregate-choose
 slice-aggregate-choose c = search needs
 
--- src/lib.rt:52:9
 choose-requires : tie.Need-choose-requires
 choose-requires c κs = search needs
 
--- src/lib.rt:53:23
 array-share-prefix-chosen : tie.Need-array-share-prefix-chosen
 array-share-prefix-chosen c =
     let s = c .before .before .before .before .before in
@@ -32,7 +25,6 @@ array-share-prefix-chosen c =
     let n : length (o .last .1 .1 .0) ≡ 64 = o .kept .1 .1 .0 in
     omega (arith, o .ensures .0, chosen-few (s .args .stop .specified) (s .args .masks .now), s .pre .0)
 
--- src/lib.rt:53:23
 slice-aggregate-fill : tie.Need-slice-aggregate-fill
 slice-aggregate-fill c =
     let s = c .before .before .before .before .before .before in
@@ -40,7 +32,6 @@ slice-aggregate-fill c =
     let n : length (o .last .1 .1 .0) ≡ 64 = o .kept .1 .1 .0 in
     sym (length-take-le (o .result) (o .last .1 .1 .0) (omega (arith, o .ensures .0, chosen-few (s .args .stop .specified) (s .args .masks .now), s .pre .0)))
 
--- src/lib.rt:53:5
 fill-requires : tie.Need-fill-requires
 fill-requires c κs =
     let s = c .before .before .before .before .before .before .before in
@@ -48,15 +39,12 @@ fill-requires c κs =
     rw (front-chosen (s .args .stop .specified) (s .args .masks .now) (o .last .1 .1 .0) _ (o .result) (o .ensures .0) (o .ensures .1))
     (few-entries (s .args .rows) (s .args .stop .specified) (s .args .masks .now) _ (s .pre .1))
 
--- src/lib.rt:54:9
 pack-requires : tie.Need-pack-requires
 pack-requires c κs = search needs
 
--- src/lib.rt:40:1
 same-length : tie.Need-same-length
 same-length c = search needs
 
--- src/lib.rt:40:1
 returns : tie.Need-returns
 returns c =
     let s = c .before .before .before .before .before .before .before .before .before .before .before in

@@ -1,21 +1,17 @@
-use borrow.Author.Needs.{needs}
+-- `window::fit` meets its contract. Assumes nothing.
+use mathlib.Core.Path.{_≡_, refl, _∙_}
+use Prim.Native.Nat.{_-_, _≤_, _<_}
 use native.Mathlib.Omega.{arith}
-use Prim.Native.Nat.{ℕ, _-_, _≤_, _<_}
-use mathlib.Core.Path.{_≡_, refl, sym, ap, _∙_}
-use lib.ListN.{getD, length, take}
-use borrow.Author.Tests.{not-true, not-false}
-use Rattle.slices.specs.declared.TestSlice.{TestSlice}
+use lib.ListN.{length, take}
+use borrow.Author.Needs.{needs}
+use borrow.Author.Tests.{not-true}
 use Rattle.slices.specs.Slices.{paired}
 use Rattle.slices.proofs.Causes.{sliceAt, slices-equal}
 use Rattle.slices.proofs.Formed.{slices-each}
 use Rattle.search.proofs.Reading.{row-fits}
-use Rattle.window.specs.Code.{meets}
 use Rattle.window.proofs.Fitting.{Fitted, fitted-start, fitted-next, fitted-stop, fitted-end, long-enough, slice-here}
 use Rattle.window.proofs.fit.Statement.{statement}
 use Rattle.window.proofs.fit.Tie as tie
-use Rattle.window.proofs.fit.Reads as reads
-use Rattle.window.proofs.fit.Lts as lts
-use Rattle.window.proofs.meet_row.Reads as meet-row-reads
 
 abbrev Inv-loop : tie.InvT-loop
 Inv-loop vectors₀ table chains specified bits kept₀ slice₀ vectors kept slice =
@@ -27,32 +23,26 @@ abbrev μ-loop : tie.MeasureT-loop
 μ-loop vectors₀ table chains specified bits kept₀ slice₀ vectors kept slice =
     length specified - slice
 
--- src/lib.rt:118:5
 loop-holds : tie.Need-loop-holds Inv-loop μ-loop
 loop-holds c =
     let s = c .before .before .before .before in
     (omega arith, refl, fitted-start (s .args .chains) (s .args .table .now) (paired (s .args .specified .now) (s .args .bits .now)) (s .args .space) (take (s .args .space .free) (s .args .vectors .now)))
 
--- src/lib.rt:120:24
 mul-t10 : tie.Need-mul-t10 Inv-loop μ-loop
 mul-t10 c = search needs
 
--- src/lib.rt:120:24
 shared-slice-read-t13 : tie.Need-shared-slice-read-t13 Inv-loop μ-loop
 shared-slice-read-t13 c = search needs
 
--- src/lib.rt:121:19
 mul-t14 : tie.Need-mul-t14 Inv-loop μ-loop
 mul-t14 c = search needs
 
--- src/lib.rt:121:19
 shared-slice-read-t16 : tie.Need-shared-slice-read-t16 Inv-loop μ-loop
 shared-slice-read-t16 c =
     let i = c .before .before in
     let a = i .before .before .before .before .before .before .args in
     omega (arith, slices-equal (a .chains) (a .specified .now) (a .bits .now) (i .before .before .before .before .before .before .pre .0), i .loop-test .taken)
 
--- src/lib.rt:123:9
 meet-row-requires : tie.Need-meet-row-requires Inv-loop μ-loop
 meet-row-requires c κs =
     let i = c .before .before .before in
@@ -63,11 +53,9 @@ meet-row-requires c κs =
       row-fits (l .slice) (length (a .specified .now)) (a .chains) (length (a .table .now)) (i .loop-test .taken) (s .pre .1),
     )
 
--- src/lib.rt:125:13
 same-length : tie.Need-same-length Inv-loop μ-loop
 same-length c = search needs
 
--- src/lib.rt:125:13
 returns : tie.Need-returns Inv-loop μ-loop
 returns c =
     let i = c .before .before .before .before .before .before .before .before in
@@ -83,15 +71,12 @@ returns c =
     let f = fitted-next (a .chains) (a .table .now) w (a .space) us (l .slice) x (l .kept) (take (l .kept .free) (l .vectors)) (m .result) (take (m .result .free) (m .last .0)) h (l .inv .2) (rw e (m .ensures)) in
     fitted-stop (a .chains) (a .table .now) w (a .space) us (l .slice) (m .result) (take (m .result .free) (m .last .0)) h f (not-true (m .result .some) (c .if1 .taken))
 
--- src/lib.rt:130:9
 add-slice : tie.Need-add-slice Inv-loop μ-loop
 add-slice c = search needs
 
--- src/lib.rt:118:5
 loop-less : tie.Need-loop-less Inv-loop μ-loop
 loop-less c = search needs
 
--- src/lib.rt:118:5
 loop-again : tie.Need-loop-again Inv-loop μ-loop
 loop-again c =
     let i = c .before .before .before .before .before .before .before .before in
@@ -109,11 +94,9 @@ loop-again c =
       fitted-next (a .chains) (a .table .now) w (a .space) us (l .slice) x (l .kept) (take (l .kept .free) (l .vectors)) (m .result) (take (m .result .free) (m .last .0)) h (l .inv .2) (rw e (m .ensures)),
     )
 
--- src/lib.rt:104:1
 same-length-2 : tie.Need-same-length-2 Inv-loop μ-loop
 same-length-2 c = search needs
 
--- src/lib.rt:104:1
 returns-2 : tie.Need-returns-2 Inv-loop μ-loop
 returns-2 c =
     let s = c .before .before .before .before .before .before in

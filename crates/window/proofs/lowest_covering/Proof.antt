@@ -1,11 +1,12 @@
-use mathlib.Core.Path.{_≡_, refl, sym, ap, _∙_}
+-- `window::lowest_covering` meets its contract. Assumes nothing.
+use mathlib.Core.Path.{sym, ap, _∙_}
+use Prim.Native.Nat.{ℕ, suc}
 use native.Mathlib.Omega.{arith}
 use native.Mathlib.Nat.{suc-mul}
-use borrow.Author.Tests.{not-true, not-false}
-use Prim.Native.Nat.{ℕ, suc, _*_, _≤_, _<_}
 use lib.ListN.{length, take}
-use Rattle.bounded.specs.Bounded.{any}
-use Rattle.slices.specs.Slices.{paired, badSlice}
+use borrow.Author.Tests.{not-true, not-false}
+use borrow.Author.Needs.{needs}
+use Rattle.slices.specs.Slices.{paired}
 use Rattle.slices.proofs.Formed.{slice-formed, stop-slice, slices-all}
 use Rattle.table.specs.Chosen.{chosen}
 use Rattle.search.specs.Search.{foundOf, lowestClear}
@@ -14,30 +15,20 @@ use Rattle.window.specs.Code.{allowed, allStates, Cut}
 use Rattle.window.proofs.Fitting.{long-enough}
 use Rattle.window.proofs.Seeds.{unitsOf, states-rising, seed-none, seed-lowest}
 use Rattle.register.proofs.Causes.{cells-within}
-use borrow.Author.Needs.{needs}
 use Rattle.window.proofs.lowest_covering.Statement.{statement}
 use Rattle.window.proofs.lowest_covering.Tie as tie
-use Rattle.window.proofs.lowest_covering.Reads as reads
-use Rattle.window.proofs.lowest_covering.Lts as lts
-use Rattle.search.proofs.lowest_clear.Reads as lowest-clear-reads
-use Rattle.space.proofs.units.Reads as units-reads
-use Rattle.window.proofs.allow.Reads as allow-reads
 
--- src/lib.rt:183:23
 units-requires : tie.Need-units-requires
 units-requires c κs = search needs
 
--- src/lib.rt:187:9
 slice-aggregate-allow : tie.Need-slice-aggregate-allow
 slice-aggregate-allow c = search needs
 
--- src/lib.rt:186:9
 allow-requires : tie.Need-allow-requires
 allow-requires c κs =
     let s = c .before .before .before .before .before .before .before in
     ((s .pre .1, slice-formed (length (s .args .masks .now)) (s .args .stop) (stop-slice (length (s .args .masks .now)) (s .args .stop) (s .pre .0 .stop)) .among), s .pre .0 .table .long)
 
--- src/lib.rt:197:9
 returns : tie.Need-returns
 returns c =
     let s = c .before .before .before .before .before .before .before .before .before .before .before in
@@ -48,7 +39,6 @@ returns c =
     let k : Cut (allowed (length (a .masks .now)) (a .table .now) (a .stop) (a .closing) w) (allStates (a .settings .cells)) (unitsOf (a .settings .cells)) (o .result) (take (o .result .free) (o .last .0)) = rw (c .before .before .before .before .before .units .ensures) at (o .ensures) in
     sym (ap foundOf (seed-none (a .settings) (a .masks .now) (a .stop) (a .pattern) (a .table .now) (a .clauses .now) (suc (length (a .specified .now))) w (s .pre .0) (omega arith) (slices-all (length (a .masks .now)) (a .specified .now) (a .bits .now) (s .pre .1)) (a .closing) (o .result) (take (o .result .free) (o .last .0)) k (not-true (o .result .some) (c .if1 .taken))))
 
--- src/lib.rt:199:5
 lowest-clear-requires : tie.Need-lowest-clear-requires
 lowest-clear-requires c κs =
     let s = c .before .before .before .before .before .before .before .before .before .before .before in
@@ -62,7 +52,6 @@ lowest-clear-requires c κs =
       rw e (omega (arith, suc-mul (length (a .specified .now)) (length (chosen (a .stop .specified) (a .masks .now))), s .pre .0 .clauses .long)),
     )
 
--- src/lib.rt:168:1
 returns-2 : tie.Need-returns-2
 returns-2 c =
     let s = c .before .before .before .before .before .before .before .before .before .before .before .before in

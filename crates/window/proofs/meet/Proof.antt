@@ -1,19 +1,16 @@
-use Rattle.space.proofs.Restricting.{restricted-left}
-use borrow.Author.Needs.{needs}
-use native.Mathlib.Omega.{arith}
-use Prim.Native.Nat.{ℕ, _-_, _^_, _/_, _%_, _≤_, _<_}
-use mathlib.Core.Path.{_≡_, refl, sym, ap, _∙_}
+-- `window::meet` meets its contract. Assumes nothing.
+use mathlib.Core.Path.{_≡_, refl, _∙_}
 use mathlib.Core.Logic.{⊎-elim}
+use Prim.Native.Nat.{_-_, _^_, _%_, _<_}
+use native.Mathlib.Omega.{arith}
 use lib.ListN.{getD, length, take, drop}
-use Rattle.space.specs.declared.Space.{Space}
+use borrow.Author.Needs.{needs}
+use Rattle.space.proofs.Restricting.{restricted-left}
 use Rattle.window.specs.Code.{meets}
 use Rattle.window.proofs.Cutting.{Toward}
 use Rattle.window.proofs.Meeting.{meet-take, meet-skip, meet-end, left-chain, left-half}
 use Rattle.window.proofs.meet.Statement.{statement}
 use Rattle.window.proofs.meet.Tie as tie
-use Rattle.window.proofs.meet.Reads as reads
-use Rattle.window.proofs.meet.Lts as lts
-use Rattle.space.proofs.restrict.Reads as restrict-reads
 
 abbrev Inv-loop : tie.InvT-loop
 Inv-loop vectors₀ row specified bits kept₀ left₀ values₀ chain₀ vectors kept left values chain =
@@ -25,14 +22,12 @@ abbrev μ-loop : tie.MeasureT-loop
 μ-loop vectors₀ row specified bits kept₀ left₀ values₀ chain₀ vectors kept left values chain =
     left
 
--- src/lib.rt:67:5
 loop-holds : tie.Need-loop-holds Inv-loop μ-loop
 loop-holds c =
     let s = c .before .before in
     let e : length (s .args .row .now) - 0 ≡ length (s .args .row .now) = omega arith in
     (rw e (s .pre), refl, λ z ws q. q)
 
--- src/lib.rt:69:51
 mul-restrict : tie.Need-mul-restrict Inv-loop μ-loop
 mul-restrict c =
     let i = c .before .before in
@@ -40,17 +35,14 @@ mul-restrict c =
     let h = left-chain (length r) (i .before .loop .chain) (i .before .loop .left) (i .before .loop .inv .0) (i .loop-test .taken) in
     search needs
 
--- src/lib.rt:69:51
 shared-slice-read-restrict : tie.Need-shared-slice-read-restrict Inv-loop μ-loop
 shared-slice-read-restrict c =
     let i = c .before .before .before in
     left-chain (length (i .before .before .before .before .args .row .now)) (i .before .loop .chain) (i .before .loop .left) (i .before .loop .inv .0) (i .loop-test .taken)
 
--- src/lib.rt:69:13
 restrict-requires : tie.Need-restrict-requires Inv-loop μ-loop
 restrict-requires c κs = search needs
 
--- src/lib.rt:73:9
 add-chain : tie.Need-add-chain Inv-loop μ-loop
 add-chain c =
     let i = c .before in
@@ -58,11 +50,9 @@ add-chain c =
     let h = left-chain (length r) (i .before .loop .chain) (i .before .loop .left) (i .before .loop .inv .0) (i .loop-test .taken) in
     search needs
 
--- src/lib.rt:67:5
 loop-less : tie.Need-loop-less Inv-loop μ-loop
 loop-less c = search needs
 
--- src/lib.rt:67:5
 loop-again : tie.Need-loop-again Inv-loop μ-loop
 loop-again c =
     let i = c .before in
@@ -82,11 +72,9 @@ loop-again c =
           (c .if1 .came),
     )
 
--- src/lib.rt:59:1
 same-length : tie.Need-same-length Inv-loop μ-loop
 same-length c = search needs
 
--- src/lib.rt:59:1
 returns : tie.Need-returns Inv-loop μ-loop
 returns c =
     let s = c .before .before .before .before in

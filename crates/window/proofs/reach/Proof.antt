@@ -1,14 +1,14 @@
-use lib.Seq.{length-take-le}
-use lib.ListN.{length-take}
-use borrow.Author.Needs.{needs}
+-- `window::reach` meets its contract. Assumes nothing.
+use mathlib.Core.Path.{_≡_, sym, _∙_}
+use mathlib.Core.Logic.{⊎-elim}
+use mathlib.Core.Bool.{_||_}
+use Prim.Native.Nat.{suc}
 use native.Mathlib.Omega.{arith}
 use native.Mathlib.Nat.{suc-mul}
-use Prim.Native.Nat.{ℕ, suc, _*_, _≤_, _<_}
-use mathlib.Core.Path.{_≡_, refl, sym, ap, _∙_}
-use mathlib.Core.Logic.{⊎-elim}
-use mathlib.Core.Bool.{Bool, true, false, _||_}
+use lib.Seq.{length-take-le}
+use lib.ListN.{length-take, length, take}
 use lib.Dec.{ltb}
-use lib.ListN.{length, take}
+use borrow.Author.Needs.{needs}
 use Rattle.register.specs.Machine.{machine}
 use Rattle.register.proofs.Causes.{cells-within}
 use Rattle.slices.specs.Slices.{paired}
@@ -19,10 +19,6 @@ use Rattle.window.proofs.Seeds.{ready-fewer}
 use Rattle.window.proofs.Reaching.{state-some, nothing-none, Passed, passed-start, passed-next, tried, reach-found, reach-none}
 use Rattle.window.proofs.reach.Statement.{statement}
 use Rattle.window.proofs.reach.Tie as tie
-use Rattle.window.proofs.reach.Reads as reads
-use Rattle.window.proofs.reach.Lts as lts
-use Rattle.window.proofs.lowest_covering.Reads as lowest-covering-reads
-use Rattle.window.proofs.most_met.Reads as most-met-reads
 
 abbrev Inv-loop : tie.InvT-loop
 Inv-loop settings masks stop pattern table clauses closing specified bits whole slices₀ slices =
@@ -32,21 +28,18 @@ abbrev μ-loop : tie.MeasureT-loop
 μ-loop settings masks stop pattern table clauses closing specified bits whole slices₀ slices =
     slices
 
--- src/lib.rt:251:9
 most-met-requires : tie.Need-most-met-requires Inv-loop μ-loop
 most-met-requires c κs =
     let s = c .before .before .before .before .before in
     let a = s .args in
     (s .pre .1, (cells-within (a .settings .cells) (a .settings .taps) (s .pre .0 .register) .1, omega (arith, suc-mul (length (a .specified .now)) (length (a .masks .now)), s .pre .0 .table .long)))
 
--- src/lib.rt:252:5
 loop-holds : tie.Need-loop-holds Inv-loop μ-loop
 loop-holds c =
     let s = c .before .before .before .before .before .before in
     let a = s .args in
     passed-start (a .settings) (a .masks .now) (a .stop) (a .pattern) (a .table .now) (a .clauses .now) (a .specified .now) (a .bits .now) (s .pre .0) (s .pre .1) (a .closing) (c .most-met .result) (c .most-met .ensures)
 
--- src/lib.rt:262:13
 slice-aggregate-lowest-covering : tie.Need-slice-aggregate-lowest-covering Inv-loop μ-loop
 slice-aggregate-lowest-covering c =
     let s = c .before .before .before .before .before .before .before .before .before .before in
@@ -54,7 +47,6 @@ slice-aggregate-lowest-covering c =
     let l = c .before .before .before .loop in
     sym (length-take-le (l .slices) (a .specified .now) (omega (arith, l .inv .within, long-enough (length (a .masks .now)) (a .specified .now) (a .bits .now) (s .pre .1))))
 
--- src/lib.rt:263:13
 slice-aggregate-lowest-covering-2 : tie.Need-slice-aggregate-lowest-covering-2 Inv-loop μ-loop
 slice-aggregate-lowest-covering-2 c =
     let s = c .before .before .before .before .before .before .before .before .before .before .before in
@@ -62,7 +54,6 @@ slice-aggregate-lowest-covering-2 c =
     let l = c .before .before .before .before .loop in
     sym (length-take-le (l .slices) (a .bits .now) (omega (arith, l .inv .within, long-enough (length (a .masks .now)) (a .specified .now) (a .bits .now) (s .pre .1), slices-equal (length (a .masks .now)) (a .specified .now) (a .bits .now) (s .pre .1))))
 
--- src/lib.rt:254:13
 lowest-covering-requires : tie.Need-lowest-covering-requires Inv-loop μ-loop
 lowest-covering-requires c κs =
     let s = c .before .before .before .before .before .before .before .before .before .before .before in
@@ -72,11 +63,9 @@ lowest-covering-requires c κs =
       slices-take (length (a .masks .now)) (l .slices) (a .specified .now) (a .bits .now) (s .pre .1),
     )
 
--- src/lib.rt:265:29
 enum-known-found : tie.Need-enum-known-found Inv-loop μ-loop
 enum-known-found c = search needs
 
--- src/lib.rt:266:13
 returns : tie.Need-returns Inv-loop μ-loop
 returns c =
     let s = c .before .before .before .before .before .before .before .before .before .before .before .before .before .before .before in
@@ -91,15 +80,12 @@ returns c =
 enum-told : tie.Need-enum-told Inv-loop μ-loop
 enum-told c = search needs
 
--- src/lib.rt:268:9
 sub-slices : tie.Need-sub-slices Inv-loop μ-loop
 sub-slices c = search needs
 
--- src/lib.rt:252:5
 loop-less : tie.Need-loop-less Inv-loop μ-loop
 loop-less c = search needs
 
--- src/lib.rt:252:5
 loop-again : tie.Need-loop-again Inv-loop μ-loop
 loop-again c =
     let s = c .before .before .before .before .before .before .before .before .before .before .before .before .before .before in
@@ -111,7 +97,6 @@ loop-again c =
     let t = tried (a .settings) (a .masks .now) (a .stop) (a .pattern) (a .table .now) (a .clauses .now) (a .specified .now) (a .bits .now) (s .pre .0) (s .pre .1) (a .closing) (l .slices) (j .closes) e in
     passed-next (machine (a .settings) (a .masks .now)) (a .stop) (a .closing) (paired (a .specified .now) (a .bits .now)) (l .slices) (omega arith) (l .inv) (sym t ∙ nothing-none _ (sym (f .ensures) ∙ c .enum-told .given .1))
 
--- src/lib.rt:235:1
 returns-2 : tie.Need-returns-2 Inv-loop μ-loop
 returns-2 c =
     let s = c .before .before .before .before .before .before .before .before in

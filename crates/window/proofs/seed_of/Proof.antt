@@ -1,30 +1,20 @@
-use mathlib.Core.Path.{_≡_, refl, sym, ap, _∙_}
+-- `window::seed_of` meets its contract. Assumes nothing.
+use mathlib.Core.Path.{sym}
+use Prim.Native.Nat.{_+_}
 use native.Mathlib.Omega.{arith}
 use native.Mathlib.Numerals.{add-one}
-use Prim.Native.Nat.{ℕ, suc, _+_, _≤_}
-use mathlib.Core.List.{List}
 use lib.ListN.{length}
-use Rattle.window.specs.Ready.{Ready}
-use Rattle.window.proofs.Calls.{table-room, ready-tables, WindowFormed, window-formed}
 use borrow.Author.Needs.{needs}
+use Rattle.window.proofs.Calls.{table-room, ready-tables, window-formed}
 use Rattle.window.proofs.seed_of.Statement.{statement}
 use Rattle.window.proofs.seed_of.Tie as tie
-use Rattle.window.proofs.seed_of.Reads as reads
-use Rattle.window.proofs.seed_of.Lts as lts
-use Rattle.table.proofs.fill.Reads as fill-reads
-use Rattle.window.proofs.answer.Reads as answer-reads
-use Rattle.window.proofs.fill_clauses.Reads as fill-clauses-reads
-use Rattle.window.proofs.lowest_covering.Reads as lowest-covering-reads
 
--- src/lib.rt:298:16
 add-rows : tie.Need-add-rows
 add-rows c = search needs
 
--- src/lib.rt:299:36
 slice-aggregate-fill : tie.Need-slice-aggregate-fill
 slice-aggregate-fill c = search needs
 
--- src/lib.rt:299:5
 fill-requires : tie.Need-fill-requires
 fill-requires c κs =
     let s = c .before .before .before .before in
@@ -32,11 +22,9 @@ fill-requires c κs =
     let w = window-formed (a .settings) (a .masks .now) (a .stop) (a .specified .now) (a .bits .now) (s .pre .0) in
     table-room (length (a .specified .now) + 1) (length (a .masks .now)) (omega (arith, w .long, s .pre .1)) (w .few)
 
--- src/lib.rt:300:57
 slice-aggregate-fill-clauses : tie.Need-slice-aggregate-fill-clauses
 slice-aggregate-fill-clauses c = search needs
 
--- src/lib.rt:300:9
 fill-clauses-requires : tie.Need-fill-clauses-requires
 fill-clauses-requires c κs =
     let s = c .before .before .before .before .before .before .before in
@@ -44,15 +32,12 @@ fill-clauses-requires c κs =
     let w = window-formed (a .settings) (a .masks .now) (a .stop) (a .specified .now) (a .bits .now) (s .pre .0) in
     (w .few, table-room (length (a .specified .now) + 1) (length (a .masks .now)) (omega (arith, w .long, s .pre .1)) (w .few))
 
--- src/lib.rt:302:41
 slice-aggregate-lowest-covering : tie.Need-slice-aggregate-lowest-covering
 slice-aggregate-lowest-covering c = search needs
 
--- src/lib.rt:302:49
 slice-aggregate-lowest-covering-2 : tie.Need-slice-aggregate-lowest-covering-2
 slice-aggregate-lowest-covering-2 c = search needs
 
--- src/lib.rt:301:9
 lowest-covering-requires : tie.Need-lowest-covering-requires
 lowest-covering-requires c κs =
     let s = c .before .before .before .before .before .before .before .before .before .before .before in
@@ -65,11 +50,9 @@ lowest-covering-requires c κs =
       w .slices,
     )
 
--- src/lib.rt:304:5
 answer-requires : tie.Need-answer-requires
 answer-requires c κs = search needs
 
--- src/lib.rt:285:1
 returns : tie.Need-returns
 returns c = c .answer .ensures _ (c .before .lowest-covering .ensures)
 

@@ -1,41 +1,28 @@
-use Prim.Native.Nat.{_≤_}
+-- `window::window_seed` meets its contract. Assumes nothing.
+use mathlib.Core.Path.{_≡_, sym, ap, _∙_}
+use native.Mathlib.Omega.{arith}
+use borrow.Author.Needs.{needs}
 use Rattle.register.specs.declared.Settings.{Settings}
 use Rattle.checks.specs.Order.{judged}
 use Rattle.checks.specs.Calls.{windowFaults}
-use Rattle.checks.specs.declared.Verdict.the-variants as verdict
-use Rattle.covering.proofs.Single.{window-answer}
-use mathlib.Core.Path.{_≡_, refl, sym, ap, _∙_, subst}
-use native.Mathlib.Omega.{arith}
+use Rattle.covering.proofs.Single.{window-answer, window-well, window-refused}
 use Rattle.register.specs.Machine.{base}
-use Rattle.covering.specs.declared.Seed.{Seed}
-use Rattle.covering.specs.Single.{windowSeed, WindowMeaning}
-use Rattle.covering.proofs.Single.{window-well, window-refused, window-means}
-use borrow.Author.Needs.{needs}
 use Rattle.window.proofs.window_seed.Statement.{statement}
+use Rattle.checks.specs.declared.Verdict.the-variants as verdict
 use Rattle.window.proofs.window_seed.Tie as tie
-use Rattle.window.proofs.window_seed.Reads as reads
-use Rattle.window.proofs.window_seed.Lts as lts
-use Rattle.checks.proofs.check_window.Reads as check-window-reads
-use Rattle.register.proofs.base.Reads as base-reads
-use Rattle.window.proofs.seed_of.Reads as seed-of-reads
 
--- src/lib.rt:319:9
 base-requires : tie.Need-base-requires
 base-requires c κs = search needs
 
--- src/lib.rt:320:9
 check-window-requires : tie.Need-check-window-requires
 check-window-requires c κs = search needs
 
--- src/lib.rt:322:26
 enum-known-verdict : tie.Need-enum-known-verdict
 enum-known-verdict c = search needs
 
--- src/lib.rt:323:32
 enum-told : tie.Need-enum-told
 enum-told c = search needs
 
--- src/lib.rt:323:32
 seed-of-requires : tie.Need-seed-of-requires
 seed-of-requires c κs =
     let b = c .before .before .before .base in
@@ -43,7 +30,6 @@ seed-of-requires c κs =
     let l = ap (λ (g : Settings). g .limit) (b .ensures) in
     (sym (k .ensures) ∙ c .enum-told .given .1, omega (arith, l))
 
--- src/lib.rt:308:1
 returns : tie.Need-returns
 returns c =
     let a = c .before .before .before .before .before .before .before .before .args in
@@ -53,7 +39,6 @@ returns c =
     window-answer (base (a .cells) (a .taps)) (a .masks .now) (a .stop) (a .specified .now) (a .bits .now) _
     (sym (window-refused (base (a .cells) (a .taps)) (a .masks .now) (a .stop) (a .specified .now) (a .bits .now) _ q))
 
--- src/lib.rt:308:1
 returns-2 : tie.Need-returns-2
 returns-2 c =
     let a = c .before .before .before .before .before .before .before .before .args in

@@ -1,8 +1,8 @@
 -- `register::Register::step` meets its contract. Assumes nothing.
 use lib.Pow.{pow-pos}
+use borrow.Author.Needs.{needs}
 use Rattle.register.proofs.Steps.{step-fits, step-narrow, step-wide}
 use Rattle.gf2.proofs.Digits.{one-shifted}
-use borrow.Author.Needs.{needs}
 use Rattle.register.proofs.Register.step.Statement.{statement}
 use Rattle.register.proofs.Register.step.Tie as tie
 

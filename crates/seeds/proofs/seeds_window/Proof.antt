@@ -1,0 +1,22 @@
+-- `seeds::seeds_window` meets its contract. Assumes nothing.
+use mathlib.Core.Path.{ap, _∙_}
+use borrow.Author.Needs.{needs}
+use Rattle.register.specs.Machine.{base}
+use Rattle.covering.proofs.Single.{window-means}
+use Rattle.seeds.specs.Face.{seedAnswerOf, testSliceOf}
+use Rattle.seeds.proofs.seeds_window.Statement.{statement}
+use Rattle.seeds.proofs.seeds_window.Tie as tie
+
+window-seed-requires : tie.Need-window-seed-requires
+window-seed-requires c κs = search needs
+
+seed-answer-of-requires : tie.Need-seed-answer-of-requires
+seed-answer-of-requires c κs = search needs
+
+returns : tie.Need-returns
+returns c =
+    let a = c .before .before .before .before .before .args in
+    (c .seed-answer-of .ensures ∙ ap seedAnswerOf (c .before .window-seed .ensures .0), window-means (base (a .cells) (a .taps)) (a .masks .now) (testSliceOf (a .stop-specified) (a .stop-bits)) (a .specified .now) (a .bits .now))
+
+pub seeds-window-spec : {M : Type 1} → statement M
+seeds-window-spec = tie.close (tie.spec window-seed-requires seed-answer-of-requires returns)
