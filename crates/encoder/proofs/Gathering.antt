@@ -75,12 +75,11 @@ module _ (M : Machine) (R : Rules) (set : List TestSlice) (old : List ℕ) where
   gathering-end place count out room e f =
       let none : Ends (n - count) place ≡ [] = ends-stop (ok M R set) n (n - count) place e in
       let c : count ≡ length (seedsOf M R set 0 (Ends n 0)) = omega (arith, ap length none, f .many, seeds-length M R set 0 (Ends n 0)) in
-      let z : 0 + length (seedsOf M R set 0 (Ends n 0)) ≡ length (seedsOf M R set 0 (Ends n 0)) = omega arith in
-      (
+      let z : 0 + length (seedsOf M R set 0 (Ends n 0)) ≡ length (seedsOf M R set 0 (Ends n 0)) = omega arith in (
         sym (hop-stays (ok M R set) n (set-bounds M R set) place e (n - count)) ∙ f .leads,
         c,
         ap (λ (es : List ℕ). sets out count (seedsOf M R set place es)) (sym none) ∙ f .written
-        ∙ sets-eq (seedsOf M R set 0 (Ends n 0)) old 0 (omega (arith, f .before, f .within)) ∙ rw z,
+            ∙ sets-eq (seedsOf M R set 0 (Ends n 0)) old 0 (omega (arith, f .before, f .within)) ∙ rw z,
       )
 
 -- what the loop answers, and the buffer that it leaves

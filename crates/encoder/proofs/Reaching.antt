@@ -85,12 +85,11 @@ module _ (M : Machine) (R : Rules) (set : List TestSlice) (a : ℕ) where
       let p = placed-parts R n a j (h .0) in
       let lt = p .0 in
       let le = p .1 in
-      let q : a + (j - a) ≡ j = omega arith in
-      (
+      let q : a + (j - a) ≡ j = omega arith in (
         lt,
         le,
         and-yes (ltb 0 (j - a)) (found (seedFor M (R .live a) last w (j - a))) (lt-ltb 0 (j - a) (omega arith))
-        (ap found (seed-same (j - a) (omega arith) (omega arith) ∙ ap (seedAt M R set a) q) ∙ h .1),
+            (ap found (seed-same (j - a) (omega arith) (omega arith) ∙ ap (seedAt M R set a) q) ∙ h .1),
       )
 
   pub record Reaches (r : Window) : Type 0 where

@@ -138,7 +138,15 @@ fn encode(
     table::fill(taps, masks, rows, &mut table);
     let pattern = window::fill_clauses(taps, masks, stop, rows, &mut clauses);
     let gathered = gather(
-        settings, masks, stop, pattern, &table, &clauses, specified, bits, &mut seeds,
+        settings,
+        masks,
+        stop,
+        pattern,
+        &table,
+        &clauses,
+        specified,
+        bits,
+        &mut seeds,
     );
     settle(specified.len(), gathered, &seeds, out)
 }

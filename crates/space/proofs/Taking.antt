@@ -165,9 +165,9 @@ module _ (mask f : ℕ) (vs : List ℕ) (n : ℕ) (count : n ≡ min f (length v
       let d : without mask L ≡ without mask (take n vs) = ap (without mask) (sym whole) in
       let g : ℕ → ℕ = added mask (getD (take n vs) i 0) in
       let m : length (without mask (take n vs)) ≡ n - 1 =
-          ap length (r .1)
-          ∙ length-append (take i (take n vs)) (map g (drop (suc i) (take n vs)))
-          ∙ rw (length-map (drop (suc i) (take n vs)) g, length-drop (suc i) (take n vs), length-take-le i (take n vs) (omega arith), len) (omega arith) in
+      ap length (r .1)
+      ∙ length-append (take i (take n vs)) (map g (drop (suc i) (take n vs)))
+      ∙ rw (length-map (drop (suc i) (take n vs)) g, length-drop (suc i) (take n vs), length-take-le i (take n vs) (omega arith), len) (omega arith) in
       (sym p, rw d (sym m), rw d (rw k at c))
 
 -- the vectors that are left, read off the buffer

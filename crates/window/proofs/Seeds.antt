@@ -111,8 +111,7 @@ module _ (g : Settings) (masks : List ℕ) (stop : TestSlice) (p : Pattern) (tab
         let m = cut .sound s (e, a .0) in
         (states-sound (g .cells) few s (m .0), table-covers closing s ∙ and-yes (allowed c table stop closing w s) (clear p clauses (length w) s) (m .1) (a .1)))
         (λ s l t.
-        let a = both (allowed c table stop closing w s) (clear p clauses (length w) s) (sym (table-covers closing s) ∙ t) in
-        (
+        let a = both (allowed c table stop closing w s) (clear p clauses (length w) s) (sym (table-covers closing s) ∙ t) in (
           lt-of-lt-of-le l (pow-mono {i = g .cells} {j = 64} few),
           and-yes (among (y .lowest) vs s) (clear p clauses (length w) s) (cut .complete s (states-complete (g .cells) few s l) (a .0) .1) (a .1),
         )))

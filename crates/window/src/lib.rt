@@ -98,7 +98,13 @@ fn meet_row(
 {
     let first = row * chains;
     let next = first + chains;
-    meet(vectors, space, &table[first..next], test.specified, test.bits)
+    meet(
+        vectors,
+        space,
+        &table[first..next],
+        test.specified,
+        test.bits,
+    )
 }
 
 // The members of a space whose slices agree with the window, row by row; it ends at the first slice that none of them meets.
@@ -209,13 +215,7 @@ pub fn lowest_covering(
 }
 
 // How many slices of a part, from the first on, can be met together.
-fn most_met(
-    cells: usize,
-    table: &[u64],
-    chains: usize,
-    specified: &[u64],
-    bits: &[u64],
-) -> usize
+fn most_met(cells: usize, table: &[u64], chains: usize, specified: &[u64], bits: &[u64]) -> usize
     requires { ⌜ badSlices chains (now specified) (now bits) ≡ false ⌝ }
     requires { ⌜ (cells ≤ 64) × (length (now specified) * chains ≤ length (now table)) ⌝ }
     ensures { λ r. ⌜ Unmet chains (now (table .entry)) (paired (now (specified .entry)) (now (bits .entry))) cells r ⌝ }
@@ -299,7 +299,15 @@ fn seed_of(
     table::fill(taps, masks, rows, &mut table);
     let pattern = fill_clauses(taps, masks, stop, rows, &mut clauses);
     let found = lowest_covering(
-        settings, masks, stop, pattern, &table, &clauses, true, specified, bits,
+        settings,
+        masks,
+        stop,
+        pattern,
+        &table,
+        &clauses,
+        true,
+        specified,
+        bits,
     );
     answer(found)
 }

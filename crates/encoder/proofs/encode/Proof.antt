@@ -58,8 +58,7 @@ gather-requires c κs =
     let l = c .before .before .before .before .before .before .before .before .before .lesser in
     let k = c .before .before .before .before .fill-clauses in
     let f = c .before .before .before .before .before .before .before .fill in
-    let n : l .result + 1 ≡ suc (min (a .settings .limit) (length (a .specified .now))) = add-one (l .result) ∙ ap suc (l .ensures) in
-    (
+    let n : l .result + 1 ≡ suc (min (a .settings .limit) (length (a .specified .now))) = add-one (l .result) ∙ ap suc (l .ensures) in (
       rw (sym n) (ready-tables (a .settings) (a .masks .now) (a .stop) (k .result) (f .last .1 .1 .1 .0) (k .last .1 .1 .1 .1 .0) _ _ (l .result + 1) (w .register) (w .chains) (w .stop) (k .ensures .0) (f .ensures) (k .ensures .1)),
       (w .slices, (s .pre .1, w .long, w .long)),
     )

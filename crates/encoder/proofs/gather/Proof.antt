@@ -91,8 +91,7 @@ reach-requires c κs =
     let a = s .args in
     let l = i .before .loop in
     let f = c .before .before .far in
-    let b = part-bounds (a .settings) (a .masks .now) (a .stop) (a .specified .now) (a .bits .now) (s .pre .1 .0) (l .place) (f .result) (omega (arith, i .loop-test .taken)) (f .ensures (a .stop)) in
-    (
+    let b = part-bounds (a .settings) (a .masks .now) (a .stop) (a .specified .now) (a .bits .now) (s .pre .1 .0) (l .place) (f .result) (omega (arith, i .loop-test .taken)) (f .ensures (a .stop)) in (
       ready-fewer (a .settings) (a .masks .now) (a .stop) (a .pattern) (a .table .now) (a .clauses .now) _ _ (let k = b .3 in omega arith) (s .pre .0),
       part-slices (a .settings) (a .masks .now) (a .stop) (a .specified .now) (a .bits .now) (s .pre .1 .0) (l .place) (f .result) (omega (arith, i .loop-test .taken)) (f .ensures (a .stop)),
     )

@@ -238,8 +238,7 @@ lowest-clear-lowest-clear-requires t c κs =
     let e = ap (λ (u : Taken). u .pivot) (o .ensures .0) in
     let n : pivot mask (take (l .left) (l .rest)) ≡ 0 → ⊥ = λ z. c .before .if3 .taken (e ∙ z) in
     let w = taken-left mask (take (l .left) (l .rest)) (o .last .0) _ (o .result) (o .ensures .0) (o .ensures .1) in
-    let lt = c .before .before .before .before .before .before .before .loop-test .taken in
-    (
+    let lt = c .before .before .before .before .before .before .before .loop-test .taken in (
       omega (arith, ap length w, s .pre .0, child-shorter (a .pattern) (a .table .now) (a .rows) (a .lowest) (take (a .free) (a .vectors)) (a .before) (r .result) (take (l .left) (l .rest)) (l .found) (l .found) (l .column) lt n (l .inv .1)),
       (rw (w, e) (child-rising (a .pattern) (a .table .now) (a .rows) (a .lowest) (take (a .free) (a .vectors)) (a .before) (r .result) (take (l .left) (l .rest)) (l .found) (l .found) (l .column) lt n (l .inv .1)), s .pre .1 .1),
     )

@@ -52,8 +52,7 @@ returns c =
     let o = c .before .before .before .before .before .before .before .choose in
     let f = c .before .before .before .fill in
     let m : min 64 (length (a .masks .now)) ≡ length (a .masks .now) = omega (arith, s .pre .0) in
-    let parts : ℕ → ℕ → Pattern = λ k b. record { columns = k; bits = b } in
-    (
+    let parts : ℕ → ℕ → Pattern = λ k b. record { columns = k; bits = b } in (
       ap₂ parts (o .ensures .0) (c .pack .ensures ∙ ap (packed (a .stop .specified) (a .stop .bits)) m),
       f .ensures ∙ rw (front-chosen (a .stop .specified) (a .masks .now) (o .last .1 .1 .0) _ (o .result) (o .ensures .0) (o .ensures .1)),
     )

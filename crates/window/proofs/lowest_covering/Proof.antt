@@ -46,8 +46,7 @@ lowest-clear-requires c κs =
     let o = c .before .before .before .allow in
     let w = paired (a .specified .now) (a .bits .now) in
     let k : Cut (allowed (length (a .masks .now)) (a .table .now) (a .stop) (a .closing) w) (allStates (a .settings .cells)) (unitsOf (a .settings .cells)) (o .result) (take (o .result .free) (o .last .0)) = rw (c .before .before .before .before .before .units .ensures) at (o .ensures) in
-    let e = ap (λ (p : Pattern). p .columns) (s .pre .0 .pattern) in
-    (
+    let e = ap (λ (p : Pattern). p .columns) (s .pre .0 .pattern) in (
       k .rising (states-rising (a .settings .cells) (cells-within (a .settings .cells) (a .settings .taps) (s .pre .0 .register) .1)) (not-false (o .result .some) (c .if1 .left)),
       rw e (omega (arith, suc-mul (length (a .specified .now)) (length (chosen (a .stop .specified) (a .masks .now))), s .pre .0 .clauses .long)),
     )

@@ -44,8 +44,7 @@ lowest-covering-requires c κs =
     let a = s .args in
     let w = window-formed (a .settings) (a .masks .now) (a .stop) (a .specified .now) (a .bits .now) (s .pre .0) in
     let k = c .before .before .before .fill-clauses in
-    let f = c .before .before .before .before .before .before .fill in
-    (
+    let f = c .before .before .before .before .before .before .fill in (
       rw (sym (add-one (length (a .specified .now)))) (ready-tables (a .settings) (a .masks .now) (a .stop) (k .result) (f .last .1 .1 .1 .0) (k .last .1 .1 .1 .1 .0) _ _ (length (a .specified .now) + 1) (w .register) (w .chains) (w .stop) (k .ensures .0) (f .ensures) (k .ensures .1)),
       w .slices,
     )
