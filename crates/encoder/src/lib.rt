@@ -178,7 +178,7 @@ fn with_stop(stop: TestSlice, written: Written) -> Encoded
     ensures { λ r. ⌜ r ≡ stopped stop written ⌝ }
 {
     match written {
-        Written::Count(count) => Encoded::Seeds(stop, count),
+        Written::Count(seeds) => Encoded::Seeds(stop, seeds),
         Written::Refused(cause) => Encoded::Refused(cause),
     }
 }

@@ -90,9 +90,9 @@ pub fn lowest_clear(
     let mut rest = vectors;
     let mut left = free;
     let mut found = before;
-    let mut column: usize = 0;
-    while column < columns {
-        let taken = space::take_out(&mut rest, left, table[first + column]);
+    let mut position: usize = 0;
+    while position < columns {
+        let taken = space::take_out(&mut rest, left, table[first + position]);
         left = taken.left;
         if taken.pivot != 0 {
             found = lowest_clear(
@@ -105,7 +105,7 @@ pub fn lowest_clear(
                 found,
             );
         }
-        column += 1;
+        position += 1;
     }
     found
 }

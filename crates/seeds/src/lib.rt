@@ -303,11 +303,11 @@ fn cubes_answer_of(encoded: Encoded) -> CubesAnswer
     ensures { λ r. ⌜ r ≡ cubesAnswerOf encoded ⌝ }
 {
     match encoded {
-        Encoded::Seeds(stop, count) => CubesAnswer {
+        Encoded::Seeds(slice, seeds) => CubesAnswer {
             number: 0,
-            value: count,
-            specified: stop.specified,
-            bits: stop.bits,
+            value: seeds,
+            specified: slice.specified,
+            bits: slice.bits,
         },
         Encoded::Refused(cause) => {
             let refusal = causes::refusal_of(cause);

@@ -37,12 +37,12 @@ lowest-clear-below t =
     lowest-clear.Pre
 
 abbrev lowest-clear-Inv-loop : lowest-clear-lts.InvT-loop
-lowest-clear-Inv-loop pattern table rows lowest free row columns first rest₀ left₀ found₀ column₀ rest left found column =
-    (length rest ≡ 64) × Branched pattern table rows lowest (take left₀ rest₀) found₀ row (take left rest) found column
+lowest-clear-Inv-loop pattern table rows lowest free row columns first rest₀ left₀ found₀ position₀ rest left found position =
+    (length rest ≡ 64) × Branched pattern table rows lowest (take left₀ rest₀) found₀ row (take left rest) found position
 
 abbrev lowest-clear-μ-loop : lowest-clear-lts.MeasureT-loop
-lowest-clear-μ-loop pattern table rows lowest free row columns first rest₀ left₀ found₀ column₀ rest left found column =
-    columns - column
+lowest-clear-μ-loop pattern table rows lowest free row columns first rest₀ left₀ found₀ position₀ rest left found position =
+    columns - position
 
 lowest-clear-reached-requires : (t : ℕ) → lowest-clear-lts.Need-reached-requires (
   reached-reads.Asked,
@@ -234,16 +234,16 @@ lowest-clear-lowest-clear-requires t c κs =
     let a = s .args in
     let r = i .before .first-shown in
     let o = c .before .before .before .before .take-out in
-    let mask = getD (a .table .now) (r .result * a .pattern .columns + l .column) 0 in
+    let mask = getD (a .table .now) (r .result * a .pattern .columns + l .position) 0 in
     let e = ap (λ (u : Taken). u .pivot) (o .ensures .0) in
     let n : pivot mask (take (l .left) (l .rest)) ≡ 0 → ⊥ = λ z. c .before .if3 .taken (e ∙ z) in
     let w = taken-left mask (take (l .left) (l .rest)) (o .last .0) _ (o .result) (o .ensures .0) (o .ensures .1) in
     let lt = c .before .before .before .before .before .before .before .loop-test .taken in (
-      omega (arith, ap length w, s .pre .0, child-shorter (a .pattern) (a .table .now) (a .rows) (a .lowest) (take (a .free) (a .vectors)) (a .before) (r .result) (take (l .left) (l .rest)) (l .found) (l .found) (l .column) lt n (l .inv .1)),
-      (rw (w, e) (child-rising (a .pattern) (a .table .now) (a .rows) (a .lowest) (take (a .free) (a .vectors)) (a .before) (r .result) (take (l .left) (l .rest)) (l .found) (l .found) (l .column) lt n (l .inv .1)), s .pre .1 .1),
+      omega (arith, ap length w, s .pre .0, child-shorter (a .pattern) (a .table .now) (a .rows) (a .lowest) (take (a .free) (a .vectors)) (a .before) (r .result) (take (l .left) (l .rest)) (l .found) (l .found) (l .position) lt n (l .inv .1)),
+      (rw (w, e) (child-rising (a .pattern) (a .table .now) (a .rows) (a .lowest) (take (a .free) (a .vectors)) (a .before) (r .result) (take (l .left) (l .rest)) (l .found) (l .found) (l .position) lt n (l .inv .1)), s .pre .1 .1),
     )
 
-lowest-clear-add-column : (t : ℕ) → lowest-clear-lts.Need-add-column (
+lowest-clear-add-position : (t : ℕ) → lowest-clear-lts.Need-add-position (
   reached-reads.Asked,
   reached-reads.Learnt,
   first-shown-reads.Asked,
@@ -253,7 +253,7 @@ lowest-clear-add-column : (t : ℕ) → lowest-clear-lts.Need-add-column (
   lowest-clear-below t,
   lowest-clear.Post,
 ) (lowest-clear-at t) lowest-clear.Post lowest-clear-Inv-loop lowest-clear-μ-loop
-lowest-clear-add-column t c = search needs
+lowest-clear-add-position t c = search needs
 
 lowest-clear-loop-less : (t : ℕ) → lowest-clear-lts.Need-loop-less (
   reached-reads.Asked,
@@ -284,16 +284,16 @@ lowest-clear-loop-again t c =
     let a = s .args in
     let r = i .before .first-shown in
     let o = c .before .before .before .take-out in
-    let mask = getD (a .table .now) (r .result * a .pattern .columns + l .column) 0 in
+    let mask = getD (a .table .now) (r .result * a .pattern .columns + l .position) 0 in
     let e = ap (λ (u : Taken). u .pivot) (o .ensures .0) in
     let w = taken-left mask (take (l .left) (l .rest)) (o .last .0) _ (o .result) (o .ensures .0) (o .ensures .1) in
     let lt = c .before .before .before .before .before .before .loop-test .taken in (
       o .kept .0 ∙ l .inv .0,
       rw w (⊎-elim
           (λ v.
-          rw (v .3) (branched-child (a .pattern) (a .table .now) (a .rows) (a .lowest) (take (a .free) (a .vectors)) (a .before) (r .result) (take (l .left) (l .rest)) (l .found) (v .2 .result) (l .column) lt (λ z. v .0 .taken (e ∙ z)) (l .inv .1)
+          rw (v .3) (branched-child (a .pattern) (a .table .now) (a .rows) (a .lowest) (take (a .free) (a .vectors)) (a .before) (r .result) (take (l .left) (l .rest)) (l .found) (v .2 .result) (l .position) lt (λ z. v .0 .taken (e ∙ z)) (l .inv .1)
           (lowest-clear-finds (a .pattern) (a .table .now) (a .rows) _ _ (l .found) (v .2 .result) (rw (w, e) at (v .2 .ensures)))))
-          (λ v. rw (v .1) (branched-same (a .pattern) (a .table .now) (a .rows) (a .lowest) (take (a .free) (a .vectors)) (a .before) (r .result) (take (l .left) (l .rest)) (l .found) (l .column) lt (sym e ∙ v .0 .left) (l .inv .1)))
+          (λ v. rw (v .1) (branched-same (a .pattern) (a .table .now) (a .rows) (a .lowest) (take (a .free) (a .vectors)) (a .before) (r .result) (take (l .left) (l .rest)) (l .found) (l .position) lt (sym e ∙ v .0 .left) (l .inv .1)))
           (c .if3 .came)),
     )
 
@@ -315,7 +315,7 @@ lowest-clear-returns-3 t c =
     let t = i .before .first-shown in
     let f = first-some (a .pattern) (a .table .now) (a .rows) (a .lowest) (t .result) (t .ensures) (i .if2 .left) in
     finds-lowest-clear (a .pattern) (a .table .now) (a .rows) (a .lowest) (take (a .free) (a .vectors)) (a .before) (l .found)
-    (branched-end (a .pattern) (a .table .now) (a .rows) (a .lowest) (take (a .free) (a .vectors)) (a .before) (t .result) (take (l .left) (l .rest)) (l .found) (l .column) (omega arith) (f .0) (s .pre .1 .1) (f .1) (l .inv .1))
+    (branched-end (a .pattern) (a .table .now) (a .rows) (a .lowest) (take (a .free) (a .vectors)) (a .before) (t .result) (take (l .left) (l .rest)) (l .found) (l .position) (omega arith) (f .0) (s .pre .1 .1) (f .1) (l .inv .1))
 
 pub +lowest-clear-spec : {M : Type 1} → statement M
 +lowest-clear-spec = close μ-lowest-clear λ t. lowest-clear-lts.spec (
@@ -344,7 +344,7 @@ pub +lowest-clear-spec : {M : Type 1} → statement M
     (lowest-clear-shared-slice-read-take-out t)
     (lowest-clear-take-out-requires t)
     (lowest-clear-lowest-clear-requires t)
-    (lowest-clear-add-column t)
+    (lowest-clear-add-position t)
     (lowest-clear-loop-less t)
     (lowest-clear-loop-again t)
     (lowest-clear-returns-3 t)
