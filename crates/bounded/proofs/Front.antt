@@ -9,7 +9,7 @@ use Prim.Native.Nat.{ℕ, zero, suc, _+_, _≤_, _<_}
 use native.Mathlib.Numerals.{add-one}
 use native.Mathlib.Omega.{arith}
 use lib.ListN.{getD, length, take, drop, set, length-append, length-drop}
-use lib.Seq.{take-suc, drop-cons, append-snoc, set-at, length-take-le, getD-take, take-all}
+use lib.Seq.{take-suc, drop-cons, append-snoc, set-at, length-take-le, getD-take}
 
 abbrev pub Front : List ℕ → List ℕ → List ℕ → ℕ → Type 0
 Front xs old out i = out ≡ take i xs ++ drop i old

@@ -1,4 +1,5 @@
 -- The laws of tests and of bounded search.
+
 pub mod Tests
 pub mod Search
 pub mod Any

@@ -13,18 +13,18 @@ use Rattle.bounded.specs.Bounded.{Least, NoneBelow, leastBelow}
 use Rattle.bounded.proofs.Tests.{clash}
 use Rattle.bounded.proofs.Search.{LeastIs, least-is}
 use Rattle.causes.specs.declared.Cause.{Cause}
-use Rattle.causes.specs.declared.Cause.the-variants as cause
 use Rattle.register.specs.declared.Settings.{Settings}
 use Rattle.register.specs.Machine.{machine}
 use Rattle.slices.specs.declared.TestSlice.{TestSlice}
 use Rattle.slices.specs.Slices.{paired}
 use Rattle.checks.specs.Order.{judged}
 use Rattle.checks.specs.Calls.{windowFaults}
-use Rattle.checks.specs.declared.Verdict.the-variants as verdict
 use Rattle.covering.specs.Covering.{covers, seedOf}
 use Rattle.covering.specs.Single.{lowestOr7, windowSeed, WindowMeaning}
 use Rattle.covering.specs.declared.Seed.{Seed}
 use Rattle.covering.specs.declared.Seed.the-variants.{Lowest, Refused}
+use Rattle.causes.specs.declared.Cause.the-variants as cause
+use Rattle.checks.specs.declared.Verdict.the-variants as verdict
 
 answer-cases : (o : Option ℕ) → ((s : ℕ) × (lowestOr7 o ≡ Lowest s)) ⊎ (lowestOr7 o ≡ Refused cause.NoSeed)
 unfolding lowestOr7

@@ -4,37 +4,35 @@
 --     cubes-refused, cubes-well     the outcome of the call, by the checks
 --     cubes-means, cubes-outcome    it means what it says
 -- Assumes nothing.
-use mathlib.Core.Path.{_≡_, refl, sym, ap, _∙_, subst}
-use mathlib.Core.Bool.{false}
+use mathlib.Core.Path.{_≡_, refl, sym, ap, _∙_}
 use mathlib.Core.Option.{Option, none, some}
 use mathlib.Core.List.{List}
 use Prim.Native.Nat.{ℕ}
 use native.Mathlib.Omega.{arith}
 use lib.ListN.{length}
 use Rattle.causes.specs.declared.Cause.{Cause}
-use Rattle.causes.specs.declared.Cause.the-variants as cause
-use Rattle.causes.specs.Outcome.{Outcome}
 use Rattle.register.specs.declared.Settings.{Settings}
 use Rattle.register.specs.Machine.{machine}
 use Rattle.slices.specs.declared.TestSlice.{TestSlice}
 use Rattle.slices.specs.Slices.{paired}
 use Rattle.checks.specs.Order.{judged}
-use Rattle.checks.specs.Calls.{setFaults, cubesFaults, stopFaults}
+use Rattle.checks.specs.Calls.{setFaults, cubesFaults}
 use Rattle.checks.specs.declared.Verdict.{Verdict}
-use Rattle.checks.specs.declared.Verdict.the-variants as verdict
 use Rattle.stop.specs.Steps.{stopFor}
 use Rattle.stop.specs.Entry.{stopOr6, stopOf}
 use Rattle.stop.specs.Meaning.{StopMeaning, SixMeaning}
-use Rattle.stop.specs.declared.Formed.the-variants as formed
 use Rattle.stop.proofs.Calls.{call-formed, formed-means, refused-means}
 use Rattle.covering.specs.Rules.{rules}
-use Rattle.encoder.specs.Encoding.{encoding, encodeSet, CubesOutcome, withStop, cubesEncoding, encodeCubes}
-use Rattle.encoder.specs.Meaning.{SetMeaning, StoppedMeaning, CubesMeaning}
+use Rattle.encoder.specs.Encoding.{encoding, encodeSet, withStop, cubesEncoding, encodeCubes}
+use Rattle.encoder.specs.Meaning.{StoppedMeaning, CubesMeaning}
 use Rattle.encoder.specs.Code.{CubesFormed}
 use Rattle.encoder.specs.declared.Encoded.{Encoded}
 use Rattle.encoder.specs.declared.Encoded.the-variants.{Refused}
 use Rattle.encoder.proofs.Formed.{cubes-formed, cubes-stop, cubes-set}
 use Rattle.encoder.proofs.Calls.{set-well, set-means}
+use Rattle.causes.specs.declared.Cause.the-variants as cause
+use Rattle.checks.specs.declared.Verdict.the-variants as verdict
+use Rattle.stop.specs.declared.Formed.the-variants as formed
 
 module _ (g : Settings) (masks ps bs : List ℕ) where
   abbrev set : List TestSlice

@@ -4,10 +4,9 @@
 --     cubes-stop, cubes-set      the stop slice may be asked for; with a stop slice that is well-formed, they are a set
 -- Assumes nothing.
 use mathlib.Core.Path.{_≡_, refl}
-use mathlib.Core.Bool.{Bool, true, false, not, _||_}
+use mathlib.Core.Bool.{false, not, _||_}
 use mathlib.Core.List.{List}
 use Prim.Native.Nat.{ℕ, _≤_, _%_}
-use native.Mathlib.Omega.{arith}
 use lib.Dec.{eqb}
 use lib.ListN.{length}
 use Rattle.bounded.specs.Bounded.{within, any}
@@ -21,10 +20,10 @@ use Rattle.slices.specs.Slices.{badSlices, badStop}
 use Rattle.checks.specs.Lengths.{badSet, badCubes}
 use Rattle.checks.specs.Order.{judged}
 use Rattle.checks.specs.Calls.{stoppedFaults, setFaults, cubesFaults, stopFaults}
-use Rattle.checks.specs.declared.Verdict.the-variants as verdict
 use Rattle.checks.proofs.Order.{well-formed, formed-well}
 use Rattle.checks.proofs.Lengths.{set-within}
 use Rattle.encoder.specs.Code.{CubesFormed}
+use Rattle.checks.specs.declared.Verdict.the-variants as verdict
 
 pub record SetFormed (g : Settings) (masks : List ℕ) (st : TestSlice) (ps bs : List ℕ) : Type 0 where
   pub register : badRegister (g .cells) (g .taps) ≡ false

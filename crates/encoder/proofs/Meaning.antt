@@ -11,7 +11,6 @@ use mathlib.Core.List.{List}
 use Prim.Native.Nat.{ℕ, _<_}
 use native.Mathlib.Omega.{arith}
 use lib.ListN.{length}
-use Rattle.causes.specs.declared.Cause.the-variants as cause
 use Rattle.causes.specs.Outcome.{refuse, fill}
 use Rattle.causes.proofs.Outcome.{Full, Short, fill-cases}
 use Rattle.register.specs.Machine.{Machine}
@@ -30,6 +29,7 @@ use Rattle.expander.proofs.Walks.{expand-covering}
 use Rattle.encoder.specs.Encoding.{seedsOf, planned, encoding}
 use Rattle.encoder.specs.Meaning.{Delivers, Shortest, Uncut, Meaning}
 use Rattle.encoder.proofs.Seeds.{seeds-cover, seeds-length, cuts-windows, windows-cuts, covering-cuts}
+use Rattle.causes.specs.declared.Cause.the-variants as cause
 
 module _ (M : Machine) (R : Rules) (set : List TestSlice) where
   abbrev n : ℕ

@@ -2,19 +2,16 @@
 --     settled-stuck, settled-short, settled-whole     8, 9, or the seeds
 --     settled-encoding, gathered-held     the windows gathered and settled are the encoding of the set; the array holds their seeds
 -- Assumes nothing.
-use mathlib.Core.Path.{_≡_, refl, sym, ap, ap₂, _∙_, subst}
+use mathlib.Core.Path.{_≡_, refl, sym, ap, _∙_}
 use mathlib.Core.Logic.{⊎-elim}
-use mathlib.Core.Bool.{Bool, true, false}
 use mathlib.Core.List.{List, _++_}
-use Prim.Native.Nat.{ℕ, _+_, _≤_, _<_}
+use Prim.Native.Nat.{ℕ, _≤_, _<_}
 use native.Mathlib.Omega.{arith}
-use lib.Dec.{ltb, leb, eqb}
 use lib.ListN.{length, take, drop, length-append}
 use lib.Seq.{length-take-le, take-at}
-use borrow.Author.Tests.{lt-ltb, le-ltb, le-leb, lt-leb, eq-eqb, ne-eqb, eqb-true, eqb-false}
+use borrow.Author.Tests.{lt-ltb, le-ltb, le-leb, lt-leb, eq-eqb, ne-eqb}
 use Rattle.bounded.proofs.Tests.{eq-or-not}
-use Rattle.causes.specs.declared.Cause.the-variants as cause
-use Rattle.causes.specs.declared.Written.the-variants.{Count, Refused}
+use Rattle.causes.specs.declared.Written.the-variants.{Count}
 use Rattle.causes.specs.Outcome.{Outcome, refuse, fill}
 use Rattle.register.specs.declared.Settings.{Settings}
 use Rattle.register.specs.Machine.{Machine, machine}
@@ -27,6 +24,7 @@ use Rattle.covering.proofs.Windows.{set-bounds}
 use Rattle.encoder.specs.Encoding.{seedsOf, planned, encoding}
 use Rattle.encoder.specs.Code.{gathered, gatheredSeeds, settled}
 use Rattle.encoder.specs.declared.Gathered.{Gathered}
+use Rattle.causes.specs.declared.Cause.the-variants as cause
 
 module _ (n : ℕ) (r : Gathered) (seeds out : List ℕ) where
   pub settled-stuck : r .place < n → settled n r seeds out ≡ refuse (cause.NoCutting (r .place)) out

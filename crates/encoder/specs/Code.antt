@@ -9,7 +9,6 @@ use mathlib.Core.List.{List}
 use Prim.Native.Nat.{ℕ}
 use lib.Dec.{ltb}
 use lib.ListN.{length, take}
-use Rattle.causes.specs.declared.Cause.the-variants as cause
 use Rattle.causes.specs.Outcome.{Outcome, refuse, fill}
 use Rattle.register.specs.declared.Settings.{Settings}
 use Rattle.register.specs.Register.{badRegister}
@@ -23,6 +22,7 @@ use Rattle.covering.specs.Rules.{rules}
 use Rattle.covering.specs.Windows.{ok}
 use Rattle.encoder.specs.Encoding.{seedsOf}
 use Rattle.encoder.specs.declared.Gathered.{Gathered}
+use Rattle.causes.specs.declared.Cause.the-variants as cause
 
 unfoldable pub gatheredSeeds : Settings → List ℕ → TestSlice → List TestSlice → List ℕ
 gatheredSeeds g masks stop set = seedsOf (machine g masks) (rules g stop) set 0 (ends (ok (machine g masks) (rules g stop) set) (length set) (length set) 0)

@@ -10,9 +10,7 @@ use mathlib.Core.Option.{none, some, Option·getD}
 use mathlib.Core.List.{List, [], _∷_}
 use Prim.Native.Nat.{ℕ}
 use lib.ListN.{length}
-use Rattle.causes.specs.declared.Cause.the-variants as cause
 use Rattle.causes.specs.declared.Written.{Written}
-use Rattle.causes.specs.declared.Written.the-variants as written
 use Rattle.causes.specs.Outcome.{Outcome, refuse, fill}
 use Rattle.register.specs.declared.Settings.{Settings}
 use Rattle.register.specs.Machine.{Machine, machine}
@@ -20,13 +18,15 @@ use Rattle.slices.specs.declared.TestSlice.{TestSlice}
 use Rattle.slices.specs.Slices.{paired}
 use Rattle.checks.specs.Order.{judged}
 use Rattle.checks.specs.Calls.{setFaults, cubesFaults}
-use Rattle.checks.specs.declared.Verdict.the-variants as verdict
 use Rattle.cutting.specs.Greedy.{Plan, done, stuck, greedy}
 use Rattle.stop.specs.Steps.{stopFor}
 use Rattle.covering.specs.Rules.{Rules, rules}
 use Rattle.covering.specs.Windows.{seedAt, ok}
 use Rattle.encoder.specs.declared.Encoded.{Encoded}
 use Rattle.encoder.specs.declared.Encoded.the-variants.{Seeds, Refused}
+use Rattle.causes.specs.declared.Cause.the-variants as cause
+use Rattle.causes.specs.declared.Written.the-variants as written
+use Rattle.checks.specs.declared.Verdict.the-variants as verdict
 
 unfoldable pub seedsOf : Machine → Rules → List TestSlice → ℕ → List ℕ → List ℕ
 seedsOf M R set a [] = []

@@ -14,7 +14,6 @@ use mathlib.Core.Option.{none, some}
 use Prim.Native.Nat.{ℕ, _≤_, _<_}
 use lib.ListN.{length, getD, take, drop}
 use Rattle.causes.specs.declared.Cause.{Cause}
-use Rattle.causes.specs.declared.Cause.the-variants as cause
 use Rattle.causes.specs.declared.Written.the-variants.{Count, Refused}
 use Rattle.causes.specs.Outcome.{Outcome, refuse, fill}
 use Rattle.slices.specs.declared.TestSlice.{TestSlice}
@@ -26,11 +25,12 @@ use Rattle.register.specs.Machine.{Machine, machine}
 use Rattle.slices.specs.Slices.{agrees, paired}
 use Rattle.checks.specs.Order.{judged}
 use Rattle.checks.specs.Calls.{setFaults, cubesFaults}
-use Rattle.checks.specs.declared.Verdict.the-variants as verdict
 use Rattle.stop.specs.Steps.{stopFor}
 use Rattle.stop.specs.Meaning.{StopMeaning, SixMeaning}
 use Rattle.expander.specs.Expanding.{expandList}
 use Rattle.encoder.specs.Encoding.{CubesOutcome, withStop}
+use Rattle.causes.specs.declared.Cause.the-variants as cause
+use Rattle.checks.specs.declared.Verdict.the-variants as verdict
 use Rattle.encoder.specs.declared.Encoded.the-variants as encoded
 
 pub record Delivers (set : List TestSlice) (expanded : List ℕ → Outcome) : Type 0 where

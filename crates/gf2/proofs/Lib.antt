@@ -1,4 +1,5 @@
 -- The laws of digits, of parity and of sums.
+
 pub mod Digits
 pub mod Ones
 pub mod Parity

@@ -11,19 +11,19 @@ use Rattle.causes.specs.Sheet.{refusalOf}
 use Rattle.register.specs.declared.Register.{Register}
 use Rattle.slices.specs.declared.TestSlice.{TestSlice}
 use Rattle.causes.specs.declared.Written.{Written}
-use Rattle.causes.specs.declared.Written.the-variants as written
 use Rattle.checks.specs.declared.Verdict.{Verdict}
 use Rattle.checks.specs.declared.Verdict.the-variants.{WellFormed, Refused}
 use Rattle.stop.specs.declared.Formed.{Formed}
-use Rattle.stop.specs.declared.Formed.the-variants as formed
 use Rattle.covering.specs.declared.Seed.{Seed}
-use Rattle.covering.specs.declared.Seed.the-variants as seed
 use Rattle.encoder.specs.declared.Encoded.{Encoded}
-use Rattle.encoder.specs.declared.Encoded.the-variants as encoded
 use Rattle.seeds.specs.declared.Answer.{Answer}
 use Rattle.seeds.specs.declared.SeedAnswer.{SeedAnswer}
 use Rattle.seeds.specs.declared.CubesAnswer.{CubesAnswer}
 use Rattle.seeds.specs.declared.StopAnswer.{StopAnswer}
+use Rattle.causes.specs.declared.Written.the-variants as written
+use Rattle.stop.specs.declared.Formed.the-variants as formed
+use Rattle.covering.specs.declared.Seed.the-variants as seed
+use Rattle.encoder.specs.declared.Encoded.the-variants as encoded
 
 abbrev pub registerOf : ℕ → ℕ → Register
 registerOf cells taps = record { cells = cells; taps = taps }

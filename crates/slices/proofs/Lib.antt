@@ -1,4 +1,5 @@
 -- The laws of test slices.
+
 pub mod Agreeing
 pub mod Paired
 pub mod Causes

@@ -1,4 +1,5 @@
 -- The laws of spaces.
+
 pub mod Members
 pub mod AllStates
 pub mod Pivot

@@ -5,21 +5,19 @@
 --     restrict-rising                       the vectors rise still
 -- Assumes nothing.
 use mathlib.Core.Path.{_≡_, refl, sym, ap, _∙_, subst}
-use mathlib.Core.Logic.{_⊎_, inl, inr, ⊎-elim}
 use mathlib.Core.Bool.{Bool, true, false, _&&_}
 use mathlib.Core.List.{List, _++_}
-use Prim.Native.Nat.{ℕ, zero, suc, _+_, _%_, _<_}
+use Prim.Native.Nat.{ℕ, _<_}
 use native.Mathlib.Omega.{arith}
 use lib.Bits.{bitXor, xor-zero-r}
 use lib.Dec.{eqb}
+use lib.ListN.{length, take}
+use lib.Seq.{take-at}
 use borrow.Author.Tests.{eqb-true, eqb-false, eq-eqb, ne-eqb}
-use Rattle.bounded.proofs.Tests.{both, and-yes}
 use Rattle.gf2.specs.Words.{odd}
 use Rattle.gf2.proofs.Parity.{odd-lt, xor-odd}
 use Rattle.gf2.proofs.Xor.{xor-twice}
 use Rattle.space.specs.Space.{shifted, restricted, pivot, without, Rising}
-use lib.ListN.{length, take}
-use lib.Seq.{take-at}
 use Rattle.space.specs.declared.Space.{Space}
 use Rattle.space.specs.declared.Taken.{Taken}
 use Rattle.space.proofs.Members.{Among}

@@ -12,9 +12,9 @@ use mathlib.Core.List.{List, [], _∷_, _++_, map, append-assoc}
 use Prim.Native.Nat.{ℕ, zero, suc, _+_, _-_, _≤_, _<_, min}
 use native.Mathlib.Numerals.{add-one}
 use native.Mathlib.Omega.{arith}
-use borrow.Author.Tests.{eq-eqb, ne-eqb}
 use lib.ListN.{take-append-drop, getD, length, take, drop, set, length-append, length-drop, length-map, drop-of-length-le}
 use lib.Seq.{take-all, take-at, sets, sets-eq, drop-cons, drop-set-lt, drop-length, getD-take, length-take-le, take-take, take-set-lt}
+use borrow.Author.Tests.{eq-eqb, ne-eqb}
 use Rattle.bounded.proofs.Tests.{lt-or-le}
 use Rattle.gf2.specs.Words.{odd}
 use Rattle.space.specs.Space.{added, pivot, without}

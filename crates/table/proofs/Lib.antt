@@ -1,4 +1,5 @@
 -- The laws of tables and of chosen positions.
+
 pub mod Pulling
 pub mod Filling
 pub mod Choosing

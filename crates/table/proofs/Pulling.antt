@@ -4,14 +4,14 @@
 --     rows-row         row t is the masks pulled back through t steps
 --     rows-first, rows-next     an entry of the first row; an entry below another is that one pulled back
 -- Assumes nothing.
-use mathlib.Core.Path.{_≡_, refl, sym, ap, ap₂, _∙_}
+use mathlib.Core.Path.{_≡_, refl, sym, ap, _∙_}
 use mathlib.Core.List.{List, [], _∷_, _++_, map, map-append, append-nil, append-assoc}
 use Prim.Native.Nat.{ℕ, zero, suc, _+_, _-_, _*_, _/_, _%_, _≤_, _<_}
 use native.Mathlib.Nat.{suc-mul, zero-mul, mul-zero}
 use native.Mathlib.Omega.{arith}
 use lib.Bits.{bitXor, xor-zero-r}
 use lib.ListN.{getD, length, take, drop, length-append, length-map}
-use lib.Seq.{getD-append-add, take-append-le, take-append-seam, drop-append-add, take-all}
+use lib.Seq.{getD-append-add, take-append-seam, drop-append-add}
 use Rattle.register.specs.Register.{pull, pulls}
 use Rattle.table.specs.Rows.{rowsOf}
 

@@ -5,18 +5,17 @@
 --     WindowFormed, window-formed     what the checks of a window leave
 --     answered-lowest, answered-none  what was found, as the answer
 -- Assumes nothing.
-use mathlib.Core.Path.{_≡_, refl, sym, ap, _∙_, subst}
-use mathlib.Core.Bool.{Bool, true, false, not}
-use mathlib.Core.Option.{Option, none, some}
+use mathlib.Core.Path.{_≡_, sym, ap}
+use mathlib.Core.Bool.{false}
+use mathlib.Core.Option.{Option}
 use mathlib.Core.List.{List, _++_}
-use Prim.Native.Nat.{ℕ, suc, _+_, _*_, _≤_, _<_}
+use Prim.Native.Nat.{ℕ, _*_, _≤_}
 use native.Mathlib.Nat.{mul-le-mul-left}
 use native.Mathlib.Omega.{arith}
 use lib.ListN.{length, length-append}
 use borrow.Author.Tests.{not-false}
 use Rattle.bounded.specs.Bounded.{within}
 use Rattle.bounded.proofs.Tests.{within-yes}
-use Rattle.causes.specs.declared.Cause.the-variants as cause
 use Rattle.register.specs.declared.Settings.{Settings}
 use Rattle.register.specs.Register.{badRegister}
 use Rattle.register.specs.Chains.{badChains}
@@ -26,7 +25,6 @@ use Rattle.slices.specs.Slices.{badSlices, badStop}
 use Rattle.checks.specs.Lengths.{badWindow}
 use Rattle.checks.specs.Order.{judged}
 use Rattle.checks.specs.Calls.{stoppedFaults, windowFaults}
-use Rattle.checks.specs.declared.Verdict.the-variants as verdict
 use Rattle.checks.proofs.Order.{formed-well}
 use Rattle.search.specs.declared.Found.the-variants.{State, Nothing}
 use Rattle.search.specs.declared.Pattern.{Pattern}
@@ -38,6 +36,8 @@ use Rattle.covering.specs.Single.{lowestOr7}
 use Rattle.covering.specs.declared.Seed.the-variants.{Lowest, Refused}
 use Rattle.window.specs.Ready.{patternOf, Tabled, Ready}
 use Rattle.window.proofs.Reaching.{state-some, nothing-none}
+use Rattle.causes.specs.declared.Cause.the-variants as cause
+use Rattle.checks.specs.declared.Verdict.the-variants as verdict
 
 pub table-room : (r c : ℕ) → r ≤ 257 → c ≤ 64 → r * c ≤ 16448
 table-room r c h l = omega (arith, mul-le-mul-left {m = c} {n = 64} r l)

@@ -6,24 +6,24 @@
 --     quiet-clear         the clauses
 --     covers-tables       both: a state covers a window
 -- Assumes nothing.
-use mathlib.Core.Path.{_≡_, refl, sym, ap, ap₂, _∙_, subst}
-use mathlib.Core.Logic.{_⊎_, inl, inr, ⊎-elim}
+use mathlib.Core.Path.{_≡_, refl, sym, ap, ap₂, _∙_}
+use mathlib.Core.Logic.{⊎-elim}
 use mathlib.Core.Bool.{Bool, true, false, not, _&&_, _||_}
 use mathlib.Core.List.{List, [], _∷_, map}
 use Prim.Native.Nat.{ℕ, zero, suc, _+_, _-_, _*_, _/_, _%_, _^_, _≤_, _<_, min}
 use native.Mathlib.Nat.{zero-lt-suc}
 use native.Mathlib.Omega.{arith}
-use lib.Bits.{bitAnd, bitXor, and-step, and-zero-r, xor-zero-r}
+use lib.Bits.{bitAnd, and-step, and-zero-r, xor-zero-r}
 use lib.Dec.{eqb}
-use lib.ListN.{getD, length, take, drop, length-map}
-use borrow.Author.Tests.{eqb-true, eq-eqb, ne-eqb, not-true, not-false}
+use lib.ListN.{length, length-map}
+use borrow.Author.Tests.{eqb-true, eq-eqb, not-true}
 use Rattle.bounded.specs.Bounded.{any, within}
 use Rattle.bounded.proofs.Tests.{both, and-yes, and-assoc, alike, neither, eq-or-not}
 use Rattle.gf2.specs.Words.{digit, odd, beyond}
 use Rattle.gf2.proofs.Digits.{no-beyond}
 use Rattle.gf2.proofs.Parity.{odd-lt}
 use Rattle.register.specs.declared.Settings.{Settings}
-use Rattle.register.specs.Register.{step, steps, pulls, badRegister}
+use Rattle.register.specs.Register.{steps, pulls, badRegister}
 use Rattle.register.specs.Chains.{slice, badCount, badMask, badChains}
 use Rattle.register.specs.Machine.{Machine, machine}
 use Rattle.register.proofs.Steps.{pulls-law}
@@ -38,7 +38,7 @@ use Rattle.table.specs.Chosen.{chosen, packed}
 use Rattle.table.proofs.Choosing.{chosen-take, chosen-skip, chosen-map}
 use Rattle.table.proofs.Packing.{packed-take, packed-skip}
 use Rattle.covering.specs.Covering.{fits, quiet, covers}
-use Rattle.window.specs.Ready.{patternOf, Ready}
+use Rattle.window.specs.Ready.{Ready}
 use Rattle.window.specs.Code.{meets, allMeet, allowed}
 use Rattle.window.proofs.Meeting.{meets-take, meets-skip}
 

@@ -6,9 +6,9 @@
 --     allowed-closed, allowed-open     the closing stop after the slices, or none
 --     fitted-start, fitted-next, fitted-stop, fitted-end     at the start, after a slice, where nothing is left, and at the end
 -- Assumes nothing.
-use mathlib.Core.Path.{_≡_, refl, sym, ap, _∙_, subst}
+use mathlib.Core.Path.{_≡_, refl, sym, ap, _∙_}
 use mathlib.Core.Bool.{Bool, true, false, _&&_}
-use mathlib.Core.List.{List, [], _∷_, _++_}
+use mathlib.Core.List.{List, [], _∷_}
 use Prim.Native.Nat.{ℕ, zero, suc, _+_, _-_, _*_, _≤_, _<_}
 use native.Mathlib.Numerals.{add-one}
 use native.Mathlib.Omega.{arith}
@@ -21,9 +21,8 @@ use Rattle.slices.specs.declared.TestSlice.{TestSlice}
 use Rattle.slices.specs.Slices.{paired, badSlices}
 use Rattle.slices.proofs.Causes.{sliceAt, slices-equal}
 use Rattle.slices.proofs.Paired.{paired-length, paired-at}
-use Rattle.window.specs.Code.{meets, allMeet, allowed, Member, Cut, Fits}
-use Rattle.window.specs.declared.Kept.{Kept}
-use Rattle.window.proofs.Cutting.{cut-none, cut-same, cut-then}
+use Rattle.window.specs.Code.{meets, allMeet, allowed, Member, Narrows, Fits}
+use Rattle.window.proofs.Narrowing.{narrows-none, narrows-same, narrows-then}
 
 pub row-part : (c : ℕ) (table : List ℕ) (t : ℕ) → take (t * c + c - t * c) (drop (t * c) table) ≡ row c table t
 row-part c table t = let e : t * c + c - t * c ≡ c = omega arith in rw e
@@ -54,18 +53,18 @@ module _ (c : ℕ) (table : List ℕ) where
     Q k s = allMeet c table 0 (take k w) s
 
     abbrev pub Fitted : ℕ → Space → List ℕ → Type 0
-    Fitted k y vs = Cut (Q k) x us y vs
+    Fitted k y vs = Narrows (Q k) x us y vs
 
     pub fitted-start : Fitted 0 x us
     unfolding allMeet
-    fitted-start = cut-none x us
+    fitted-start = narrows-none x us
 
-    pub fitted-next : (k : ℕ) (d : TestSlice) (y : Space) (vs : List ℕ) (z : Space) (ws : List ℕ) → k < length w → Fitted k y vs → Cut (Meets k (getD w k d)) y vs z ws → Fitted (k + 1) z ws
+    pub fitted-next : (k : ℕ) (d : TestSlice) (y : Space) (vs : List ℕ) (z : Space) (ws : List ℕ) → k < length w → Fitted k y vs → Narrows (Meets k (getD w k d)) y vs z ws → Fitted (k + 1) z ws
     fitted-next k d y vs z ws h f g =
         let e : 0 + k ≡ k = omega arith in
-        cut-same (λ s. Q k s && Meets k (getD w k d) s) (Q (k + 1)) x us z ws
+        narrows-same (λ s. Q k s && Meets k (getD w k d) s) (Q (k + 1)) x us z ws
         (λ s. sym (ap (λ (n : ℕ). Q n s) (add-one k) ∙ meet-last w 0 k s d h ∙ ap (λ (n : ℕ). Q k s && Meets n (getD w k d) s) e))
-        (cut-then (Q k) (Meets k (getD w k d)) x us y vs z ws f g)
+        (narrows-then (Q k) (Meets k (getD w k d)) x us y vs z ws f g)
 
     none : (k : ℕ) (z : Space) (ws : List ℕ) → Fitted k z ws → z .some ≡ false → (s : ℕ) → Member x us s → Q k s ≡ true → ⊥
     none k z ws f e s m q = clash (z .some) (f .complete s m q .0) e
@@ -86,7 +85,7 @@ module _ (c : ℕ) (table : List ℕ) where
         let e : k ≡ length w = omega arith in
         record {
           within = h;
-          whole = cut-same (Q k) (allMeet c table 0 w) x us z ws (λ s. ap (λ (v : List TestSlice). allMeet c table 0 v s) (take-all k w (omega arith))) f;
+          whole = narrows-same (Q k) (allMeet c table 0 w) x us z ws (λ s. ap (λ (v : List TestSlice). allMeet c table 0 v s) (take-all k w (omega arith))) f;
           more = λ j s a b m. absurd (omega arith);
         }
 
@@ -102,14 +101,14 @@ module _ (c : ℕ) (ps bs : List ℕ) (b : badSlices c ps bs ≡ false) where
 -- ---- with the closing stop, and without
 
 module _ (c : ℕ) (table : List ℕ) (stop : TestSlice) (w : List TestSlice) (x : Space) (us : List ℕ) (y : Space) (vs : List ℕ) where
-  pub allowed-closed : (z : Space) (ws : List ℕ) (closing : Bool) (n : ℕ) → closing ≡ true → length w ≡ n → Cut (allMeet c table 0 w) x us y vs
-      → Cut (meets (row c table n) (stop .specified) (stop .bits)) y vs z ws → Cut (allowed c table stop closing w) x us z ws
+  pub allowed-closed : (z : Space) (ws : List ℕ) (closing : Bool) (n : ℕ) → closing ≡ true → length w ≡ n → Narrows (allMeet c table 0 w) x us y vs
+      → Narrows (meets (row c table n) (stop .specified) (stop .bits)) y vs z ws → Narrows (allowed c table stop closing w) x us z ws
   unfolding allowed
   allowed-closed z ws closing n e l f g =
-      cut-same (λ s. allMeet c table 0 w s && meets (row c table n) (stop .specified) (stop .bits) s) (allowed c table stop closing w) x us z ws
+      narrows-same (λ s. allMeet c table 0 w s && meets (row c table n) (stop .specified) (stop .bits) s) (allowed c table stop closing w) x us z ws
       (λ s. rw (e, l))
-      (cut-then (allMeet c table 0 w) (meets (row c table n) (stop .specified) (stop .bits)) x us y vs z ws f g)
+      (narrows-then (allMeet c table 0 w) (meets (row c table n) (stop .specified) (stop .bits)) x us y vs z ws f g)
 
-  pub allowed-open : (closing : Bool) → closing ≡ false → Cut (allMeet c table 0 w) x us y vs → Cut (allowed c table stop closing w) x us y vs
+  pub allowed-open : (closing : Bool) → closing ≡ false → Narrows (allMeet c table 0 w) x us y vs → Narrows (allowed c table stop closing w) x us y vs
   unfolding allowed
-  allowed-open closing e f = cut-same (allMeet c table 0 w) (allowed c table stop closing w) x us y vs (λ s. rw e (sym (and-true (allMeet c table 0 w s)))) f
+  allowed-open closing e f = narrows-same (allMeet c table 0 w) (allowed c table stop closing w) x us y vs (λ s. rw e (sym (and-true (allMeet c table 0 w s)))) f

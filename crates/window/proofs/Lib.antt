@@ -1,5 +1,6 @@
 -- The laws of the search for a seed.
-pub mod Cutting
+
+pub mod Narrowing
 pub mod Meeting
 pub mod Clauses
 pub mod Fitting

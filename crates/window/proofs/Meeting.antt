@@ -4,9 +4,9 @@
 -- Assumes nothing.
 use mathlib.Core.Path.{_≡_, refl, sym, ap, _∙_}
 use mathlib.Core.Logic.{⊎-elim}
-use mathlib.Core.Bool.{Bool, true, false, _&&_}
+use mathlib.Core.Bool.{Bool, true, _&&_}
 use mathlib.Core.List.{List, [], _∷_}
-use Prim.Native.Nat.{ℕ, zero, suc, _+_, _-_, _^_, _/_, _%_, _≤_, _<_}
+use Prim.Native.Nat.{ℕ, suc, _+_, _-_, _^_, _/_, _%_, _<_}
 use native.Mathlib.Numerals.{add-one}
 use native.Mathlib.Omega.{arith}
 use lib.Dec.{eqb}
@@ -17,8 +17,8 @@ use Rattle.bounded.proofs.Tests.{lt-or-le}
 use Rattle.gf2.specs.Words.{odd}
 use Rattle.space.specs.declared.Space.{Space}
 use Rattle.space.specs.Space.{restricted, without}
-use Rattle.window.specs.Code.{meets, Cut}
-use Rattle.window.proofs.Cutting.{Toward, cut-none, cut-same, cut-then, cut-restrict}
+use Rattle.window.specs.Code.{meets, Narrows}
+use Rattle.window.proofs.Narrowing.{Toward, narrows-none, narrows-same, narrows-then, narrows-restrict}
 
 pub meets-take : (m : ℕ) (ms : List ℕ) (p b s : ℕ) → p % 2 ≡ 1 → meets (m ∷ ms) p b s ≡ (eqb (odd s m) (b % 2) && meets ms (p / 2) (b / 2) s)
 unfolding meets
@@ -40,20 +40,20 @@ module _ (row : List ℕ) (Q : ℕ → Bool) (x : Space) (us : List ℕ) where
   pub meet-take : (j p b : ℕ) (y : Space) (vs : List ℕ) → j < length row → p % 2 ≡ 1 → Toward Q x us (meets (drop j row) p b) y vs
       → Toward Q x us (meets (drop (j + 1) row) (p / 2) (b / 2)) (restricted (getD row j 0) (b % 2) vs y) (without (getD row j 0) vs)
   meet-take j p b y vs h e t z ws c =
-      t z ws (cut-same (λ s. eqb (odd s (getD row j 0)) (b % 2) && meets (drop (j + 1) row) (p / 2) (b / 2) s) (meets (drop j row) p b) y vs z ws
+      t z ws (narrows-same (λ s. eqb (odd s (getD row j 0)) (b % 2) && meets (drop (j + 1) row) (p / 2) (b / 2) s) (meets (drop j row) p b) y vs z ws
       (λ s. sym (ap (λ (l : List ℕ). meets l p b s) (rest j h) ∙ meets-take (getD row j 0) (drop (j + 1) row) p b s e))
-      (cut-then (λ s. eqb (odd s (getD row j 0)) (b % 2)) (meets (drop (j + 1) row) (p / 2) (b / 2)) y vs
-      (restricted (getD row j 0) (b % 2) vs y) (without (getD row j 0) vs) z ws (cut-restrict (getD row j 0) (b % 2) (omega arith) y vs) c))
+      (narrows-then (λ s. eqb (odd s (getD row j 0)) (b % 2)) (meets (drop (j + 1) row) (p / 2) (b / 2)) y vs
+      (restricted (getD row j 0) (b % 2) vs y) (without (getD row j 0) vs) z ws (narrows-restrict (getD row j 0) (b % 2) (omega arith) y vs) c))
 
   pub meet-skip : (j p b : ℕ) (y : Space) (vs : List ℕ) → j < length row → (p % 2 ≡ 1 → ⊥) → Toward Q x us (meets (drop j row) p b) y vs
       → Toward Q x us (meets (drop (j + 1) row) (p / 2) (b / 2)) y vs
   meet-skip j p b y vs h n t z ws c =
-      t z ws (cut-same (meets (drop (j + 1) row) (p / 2) (b / 2)) (meets (drop j row) p b) y vs z ws
+      t z ws (narrows-same (meets (drop (j + 1) row) (p / 2) (b / 2)) (meets (drop j row) p b) y vs z ws
       (λ s. sym (ap (λ (l : List ℕ). meets l p b s) (rest j h) ∙ meets-skip (getD row j 0) (drop (j + 1) row) p b s n)) c)
 
-  pub meet-end : (j p b : ℕ) (y : Space) (vs : List ℕ) → p ≡ 0 → Toward Q x us (meets (drop j row) p b) y vs → Cut Q x us y vs
+  pub meet-end : (j p b : ℕ) (y : Space) (vs : List ℕ) → p ≡ 0 → Toward Q x us (meets (drop j row) p b) y vs → Narrows Q x us y vs
   meet-end j p b y vs e t =
-      t y vs (cut-same (λ s. true) (meets (drop j row) p b) y vs y vs (λ s. sym (ap (λ (q : ℕ). meets (drop j row) q b s) e ∙ meets-none (drop j row) b s)) (cut-none y vs))
+      t y vs (narrows-same (λ s. true) (meets (drop j row) p b) y vs y vs (λ s. sym (ap (λ (q : ℕ). meets (drop j row) q b s) e ∙ meets-none (drop j row) b s)) (narrows-none y vs))
 
 -- the positions that are left fit the chains that are left
 pub left-chain : (c j p : ℕ) → p < 2 ^ (c - j) → (p ≡ 0 → ⊥) → j < c

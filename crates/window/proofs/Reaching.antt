@@ -7,24 +7,21 @@
 -- Assumes nothing.
 use mathlib.Core.Path.{_≡_, refl, sym, ap, ap₂, _∙_, subst}
 use mathlib.Core.Logic.{⊎-elim}
-use mathlib.Core.Bool.{Bool, true, false, _&&_, _||_}
-use mathlib.Core.Option.{Option, none, some, Option·getD}
+use mathlib.Core.Bool.{Bool, false, _&&_, _||_}
+use mathlib.Core.Option.{Option, none, some}
 use mathlib.Core.List.{List}
-use Prim.Native.Nat.{ℕ, zero, suc, _+_, _-_, _≤_, _<_}
+use Prim.Native.Nat.{ℕ, zero, suc, _-_, _≤_, _<_}
 use native.Mathlib.Omega.{arith}
 use lib.Dec.{ltb}
 use lib.ListN.{length, take, length-take}
 use borrow.Author.Tests.{lt-ltb}
-use Rattle.bounded.specs.Bounded.{any, lastBelow}
 use Rattle.bounded.proofs.Tests.{clash, fails, both, eq-or-not}
 use Rattle.bounded.proofs.Search.{last-of, last-none}
 use Rattle.register.specs.declared.Settings.{Settings}
 use Rattle.register.specs.Machine.{Machine, machine}
 use Rattle.slices.specs.declared.TestSlice.{TestSlice}
-use Rattle.slices.specs.Slices.{paired, badSlice, badSlices}
-use Rattle.slices.proofs.Causes.{slices-equal}
+use Rattle.slices.specs.Slices.{paired, badSlices}
 use Rattle.slices.proofs.Formed.{slices-all, slices-take, paired-take}
-use Rattle.search.specs.declared.Found.{Found}
 use Rattle.search.specs.declared.Found.the-variants.{State, Nothing}
 use Rattle.search.specs.declared.Pattern.{Pattern}
 use Rattle.search.specs.Search.{foundOf}
@@ -32,8 +29,7 @@ use Rattle.covering.specs.Covering.{seedOf}
 use Rattle.covering.specs.Windows.{found}
 use Rattle.window.specs.Ready.{Ready}
 use Rattle.window.specs.Longest.{closesAt, seedFor, longest, reachOf}
-use Rattle.window.specs.Code.{allMeet, Unmet}
-use Rattle.window.specs.declared.Window.{Window}
+use Rattle.window.specs.Code.{Unmet}
 use Rattle.window.proofs.Fitting.{long-enough}
 use Rattle.window.proofs.Seeds.{unmet}
 

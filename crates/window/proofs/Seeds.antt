@@ -7,15 +7,15 @@
 --     unmet-more       how many slices can be met together
 -- Assumes nothing.
 use mathlib.Core.Path.{_≡_, refl, sym, ap, _∙_, subst}
-use mathlib.Core.Bool.{Bool, true, false, not, _&&_, _||_}
+use mathlib.Core.Bool.{Bool, true, false, _&&_}
 use mathlib.Core.Option.{none}
 use mathlib.Core.List.{List}
-use Prim.Native.Nat.{ℕ, suc, _+_, _*_, _%_, _^_, _≤_, _<_}
+use Prim.Native.Nat.{ℕ, _+_, _%_, _^_, _≤_, _<_}
 use native.Mathlib.Nat.{mul-le-mul-right, lt-of-lt-of-le}
 use native.Mathlib.Omega.{arith}
 use lib.ListN.{length, take}
 use lib.Pow.{pow-mono}
-use Rattle.bounded.specs.Bounded.{any, leastBelow}
+use Rattle.bounded.specs.Bounded.{any}
 use Rattle.bounded.proofs.Tests.{clash, fails, both, and-yes}
 use Rattle.bounded.proofs.Search.{none-of, least-same}
 use Rattle.register.specs.declared.Settings.{Settings}
@@ -32,7 +32,7 @@ use Rattle.search.specs.Clauses.{clear}
 use Rattle.search.specs.Search.{foundOf, lowestClear}
 use Rattle.covering.specs.Covering.{covers, seedOf}
 use Rattle.window.specs.Ready.{Tabled, Ready}
-use Rattle.window.specs.Code.{allMeet, allowed, allStates, Member, Cut, Fits, Unmet}
+use Rattle.window.specs.Code.{allMeet, allowed, allStates, Member, Narrows, Fits, Unmet}
 use Rattle.window.specs.declared.Kept.{Kept}
 use Rattle.window.proofs.Covering.{covers-tables}
 
@@ -95,7 +95,7 @@ module _ (g : Settings) (masks : List ℕ) (stop : TestSlice) (p : Pattern) (tab
   table-covers : (closing : Bool) (s : ℕ) → covers M stop closing w s ≡ (allowed c table stop closing w s && clear p clauses (length w) s)
   table-covers closing s = covers-tables g masks stop p table clauses n r w closing s h f
 
-  module _ (closing : Bool) (y : Space) (vs : List ℕ) (cut : Cut (allowed c table stop closing w) (allStates (g .cells)) (unitsOf (g .cells)) y vs) where
+  module _ (closing : Bool) (y : Space) (vs : List ℕ) (cut : Narrows (allowed c table stop closing w) (allStates (g .cells)) (unitsOf (g .cells)) y vs) where
     pub seed-none : y .some ≡ false → seedOf M stop closing w ≡ none
     unfolding seedOf
     seed-none e = none-of (covers M stop closing w) (2 ^ g .cells) (λ s l.

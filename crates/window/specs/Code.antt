@@ -2,7 +2,7 @@
 --     meets masks p b s       at each position that p specifies the mask reads the bit of b in the state s
 --     allMeet c table t w s   so it is of the slices of w, from row t of the table on
 --     Member y vs s           s is a member of the space y with the vectors vs
---     Cut Q y vs z ws         the members of z are exactly those of y that pass Q, and the vectors rise still
+--     Narrows Q y vs z ws         the members of z are exactly those of y that pass Q, and the vectors rise still
 --     Fits c table w x us r vs     r holds the members of x that meet all slices w; no member meets more of them, from the first on, than r says
 --     Unmet c table w cells k     no state meets more than k of the slices w from the first on
 --     allStates cells         the space of all states, over the unit vectors
@@ -31,14 +31,14 @@ allMeet c table t (x ∷ w) s = meets (row c table t) (x .specified) (x .bits) s
 abbrev pub Member : Space → List ℕ → ℕ → Type 0
 Member y vs s = (y .some ≡ true) × (among (y .lowest) vs s ≡ true)
 
-pub record Cut (Q : ℕ → Bool) (y : Space) (vs : List ℕ) (z : Space) (ws : List ℕ) : Type 0 where
+pub record Narrows (Q : ℕ → Bool) (y : Space) (vs : List ℕ) (z : Space) (ws : List ℕ) : Type 0 where
   pub sound : (s : ℕ) → Member z ws s → Member y vs s × (Q s ≡ true)
   pub complete : (s : ℕ) → Member y vs s → Q s ≡ true → Member z ws s
   pub rising : Rising (y .lowest) 0 vs → z .some ≡ true → Rising (z .lowest) 0 ws
 
 pub record Fits (c : ℕ) (table : List ℕ) (w : List TestSlice) (x : Space) (us : List ℕ) (r : Kept) (vs : List ℕ) : Type 0 where
   pub within : r .slices ≤ length w
-  pub whole : Cut (allMeet c table 0 w) x us (r .space) vs
+  pub whole : Narrows (allMeet c table 0 w) x us (r .space) vs
   pub more : (j s : ℕ) → r .slices < j → j ≤ length w → Member x us s → allMeet c table 0 (take j w) s ≡ false
 
 abbrev pub allStates : ℕ → Space

@@ -26,7 +26,7 @@ ghost use Rattle.search.specs.Search.{foundOf};
 ghost use Rattle.search.specs.Clauses.{row as rowOf};
 ghost use Rattle.window.specs.Ready.{patternOf, Ready};
 ghost use Rattle.window.specs.Longest.{reachOf};
-ghost use Rattle.window.specs.Code.{allStates, allowed, Cut, Fits, meets, Unmet};
+ghost use Rattle.window.specs.Code.{allStates, allowed, Narrows, Fits, meets, Unmet};
 
 // The most entries of a table: rows 0 to 256 of 64 chains.
 pub const MOST_ENTRIES: usize = 16448;
@@ -66,7 +66,7 @@ pub fn fill_clauses(
 // The members of a space whose slice agrees with a test slice; the row reads that slice.
 fn meet(vectors: &mut [u64], space: Space, row: &[u64], specified: u64, bits: u64) -> Space
     requires { ⌜ specified < 2 ^ length (now row) ⌝ }
-    ensures { λ r. ⌜ Cut (meets (now (row .entry)) specified bits) space (take (space .free) (now (vectors .entry))) r (take (r .free) (now (vectors .exit))) ⌝ }
+    ensures { λ r. ⌜ Narrows (meets (now (row .entry)) specified bits) space (take (space .free) (now (vectors .entry))) r (take (r .free) (now (vectors .exit))) ⌝ }
 {
     let mut kept = space;
     let mut left = specified;
@@ -94,7 +94,7 @@ fn meet_row(
 ) -> Space
     requires { ⌜ test .specified < 2 ^ chains ⌝ }
     requires { ⌜ row * chains + chains ≤ length (now table) ⌝ }
-    ensures { λ r. ⌜ Cut (meets (rowOf chains (now (table .entry)) row) (test .specified) (test .bits)) space (take (space .free) (now (vectors .entry))) r (take (r .free) (now (vectors .exit))) ⌝ }
+    ensures { λ r. ⌜ Narrows (meets (rowOf chains (now (table .entry)) row) (test .specified) (test .bits)) space (take (space .free) (now (vectors .entry))) r (take (r .free) (now (vectors .exit))) ⌝ }
 {
     let first = row * chains;
     let next = first + chains;
@@ -155,7 +155,7 @@ fn allow(
 ) -> Space
     requires { ⌜ (badSlices chains (now specified) (now bits) ≡ false) × (stop .specified < 2 ^ chains) ⌝ }
     requires { ⌜ suc (length (now specified)) * chains ≤ length (now table) ⌝ }
-    ensures { λ r. ⌜ Cut (allowed chains (now (table .entry)) stop closing (paired (now (specified .entry)) (now (bits .entry)))) (allStates cells) (take cells (now (vectors .entry))) r (take (r .free) (now (vectors .exit))) ⌝ }
+    ensures { λ r. ⌜ Narrows (allowed chains (now (table .entry)) stop closing (paired (now (specified .entry)) (now (bits .entry)))) (allStates cells) (take cells (now (vectors .entry))) r (take (r .free) (now (vectors .exit))) ⌝ }
 {
     let all = Space {
         lowest: 0,
@@ -171,8 +171,7 @@ fn allow(
 }
 
 // The lowest state that covers a window: the lowest of those that the bits and the closing stop allow that does not show the stop before.
-// An inner function: its callers show that the window is well-formed and that the tables are those of the register, the chains and the stop slice.
-pub fn lowest_covering(
+fn lowest_covering(
     settings: Settings,
     masks: &[u64],
     stop: TestSlice,

@@ -31,7 +31,7 @@ encode-formed-requires c κs =
     let b = c .before .before .before .before .base in
     let k = c .before .before .before .check-cubes in
     let l = ap (λ (g : Settings). g .limit) (b .ensures) in
-    (cubes-formed (b .result) (a .masks .now) (a .specified .now) (a .bits .now) (a .depth) (sym (k .ensures) ∙ c .before .enum-told .given .1), omega (arith, l))
+    (cubes-formed (b .result) (a .masks .now) (a .specified .now) (a .bits .now) _ (sym (k .ensures) ∙ c .before .enum-told .given .1), omega (arith, l))
 
 returns : tie.Need-returns
 returns c =

@@ -11,7 +11,7 @@ use Rattle.slices.proofs.Formed.{slice-formed, stop-slice, slices-all}
 use Rattle.table.specs.Chosen.{chosen}
 use Rattle.search.specs.Search.{foundOf, lowestClear}
 use Rattle.search.specs.declared.Pattern.{Pattern}
-use Rattle.window.specs.Code.{allowed, allStates, Cut}
+use Rattle.window.specs.Code.{allowed, allStates, Narrows}
 use Rattle.window.proofs.Fitting.{long-enough}
 use Rattle.window.proofs.Seeds.{unitsOf, states-rising, seed-none, seed-lowest}
 use Rattle.register.proofs.Causes.{cells-within}
@@ -36,7 +36,7 @@ returns c =
     let o = c .before .before .before .allow in
     let w = paired (a .specified .now) (a .bits .now) in
     let n = long-enough (length (a .masks .now)) (a .specified .now) (a .bits .now) (s .pre .1) in
-    let k : Cut (allowed (length (a .masks .now)) (a .table .now) (a .stop) (a .closing) w) (allStates (a .settings .cells)) (unitsOf (a .settings .cells)) (o .result) (take (o .result .free) (o .last .0)) = rw (c .before .before .before .before .before .units .ensures) at (o .ensures) in
+    let k : Narrows (allowed (length (a .masks .now)) (a .table .now) (a .stop) (a .closing) w) (allStates (a .settings .cells)) (unitsOf (a .settings .cells)) (o .result) (take (o .result .free) (o .last .0)) = rw (c .before .before .before .before .before .units .ensures) at (o .ensures) in
     sym (ap foundOf (seed-none (a .settings) (a .masks .now) (a .stop) (a .pattern) (a .table .now) (a .clauses .now) (suc (length (a .specified .now))) w (s .pre .0) (omega arith) (slices-all (length (a .masks .now)) (a .specified .now) (a .bits .now) (s .pre .1)) (a .closing) (o .result) (take (o .result .free) (o .last .0)) k (not-true (o .result .some) (c .if1 .taken))))
 
 lowest-clear-requires : tie.Need-lowest-clear-requires
@@ -45,7 +45,7 @@ lowest-clear-requires c κs =
     let a = s .args in
     let o = c .before .before .before .allow in
     let w = paired (a .specified .now) (a .bits .now) in
-    let k : Cut (allowed (length (a .masks .now)) (a .table .now) (a .stop) (a .closing) w) (allStates (a .settings .cells)) (unitsOf (a .settings .cells)) (o .result) (take (o .result .free) (o .last .0)) = rw (c .before .before .before .before .before .units .ensures) at (o .ensures) in
+    let k : Narrows (allowed (length (a .masks .now)) (a .table .now) (a .stop) (a .closing) w) (allStates (a .settings .cells)) (unitsOf (a .settings .cells)) (o .result) (take (o .result .free) (o .last .0)) = rw (c .before .before .before .before .before .units .ensures) at (o .ensures) in
     let e = ap (λ (p : Pattern). p .columns) (s .pre .0 .pattern) in (
       k .rising (states-rising (a .settings .cells) (cells-within (a .settings .cells) (a .settings .taps) (s .pre .0 .register) .1)) (not-false (o .result .some) (c .if1 .left)),
       rw e (omega (arith, suc-mul (length (a .specified .now)) (length (chosen (a .stop .specified) (a .masks .now))), s .pre .0 .clauses .long)),
@@ -58,7 +58,7 @@ returns-2 c =
     let o = c .before .before .before .before .allow in
     let w = paired (a .specified .now) (a .bits .now) in
     let n = long-enough (length (a .masks .now)) (a .specified .now) (a .bits .now) (s .pre .1) in
-    let k : Cut (allowed (length (a .masks .now)) (a .table .now) (a .stop) (a .closing) w) (allStates (a .settings .cells)) (unitsOf (a .settings .cells)) (o .result) (take (o .result .free) (o .last .0)) = rw (c .before .before .before .before .before .before .units .ensures) at (o .ensures) in
+    let k : Narrows (allowed (length (a .masks .now)) (a .table .now) (a .stop) (a .closing) w) (allStates (a .settings .cells)) (unitsOf (a .settings .cells)) (o .result) (take (o .result .free) (o .last .0)) = rw (c .before .before .before .before .before .before .units .ensures) at (o .ensures) in
     c .lowest-clear .ensures
     ∙ ap (λ (m : ℕ). lowestClear (a .pattern) (a .clauses .now) m (o .result .lowest) (take (o .result .free) (o .last .0))) (sym n)
     ∙ seed-lowest (a .settings) (a .masks .now) (a .stop) (a .pattern) (a .table .now) (a .clauses .now) (suc (length (a .specified .now))) w (s .pre .0) (omega arith) (slices-all (length (a .masks .now)) (a .specified .now) (a .bits .now) (s .pre .1)) (a .closing) (o .result) (take (o .result .free) (o .last .0)) k (not-false (o .result .some) (c .before .if1 .left))

@@ -7,7 +7,7 @@ use lib.ListN.{getD, length, take, drop}
 use borrow.Author.Needs.{needs}
 use Rattle.space.proofs.Restricting.{restricted-left}
 use Rattle.window.specs.Code.{meets}
-use Rattle.window.proofs.Cutting.{Toward}
+use Rattle.window.proofs.Narrowing.{Toward}
 use Rattle.window.proofs.Meeting.{meet-take, meet-skip, meet-end, left-chain, left-half}
 use Rattle.window.proofs.meet.Statement.{statement}
 use Rattle.window.proofs.meet.Tie as tie

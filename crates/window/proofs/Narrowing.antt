@@ -1,37 +1,29 @@
 -- Laws of what is left of a space under a condition.
---     cut-none       nothing is asked
---     cut-empty      nothing is left, whatever is asked
---     cut-same       two conditions that are one
---     cut-then       one condition after another
---     cut-restrict   an equation
+--     narrows-none       nothing is asked
+--     narrows-same       two conditions that are one
+--     narrows-then       one condition after another
+--     narrows-restrict   an equation
 --     Toward         what is left to ask, asked from here, is the whole asked from the start
 -- Assumes nothing.
-use mathlib.Core.Path.{_≡_, refl, sym, ap, _∙_, subst}
-use mathlib.Core.Bool.{Bool, true, false, _&&_}
+use mathlib.Core.Path.{_≡_, refl, sym, _∙_}
+use mathlib.Core.Bool.{Bool, true, _&&_}
 use mathlib.Core.List.{List}
 use Prim.Native.Nat.{ℕ, _<_}
 use lib.Dec.{eqb}
 use borrow.Author.Tests.{eqb-true, eq-eqb}
-use Rattle.bounded.proofs.Tests.{clash, both, and-yes}
+use Rattle.bounded.proofs.Tests.{both, and-yes}
 use Rattle.gf2.specs.Words.{odd}
 use Rattle.space.specs.declared.Space.{Space}
-use Rattle.space.specs.Space.{among, pivot, without, shifted, restricted, Rising}
-use Rattle.space.proofs.Members.{Among, among-is, is-among, among-lowest}
+use Rattle.space.specs.Space.{pivot, without, shifted, restricted}
+use Rattle.space.proofs.Members.{among-is, is-among, among-lowest}
 use Rattle.space.proofs.Restricting.{restrict-sound, restrict-complete, restrict-rising}
-use Rattle.window.specs.Code.{Member, Cut}
+use Rattle.window.specs.Code.{Member, Narrows}
 
-pub cut-none : (y : Space) (vs : List ℕ) → Cut (λ s. true) y vs y vs
-cut-none y vs = record { sound = λ s m. (m, refl); complete = λ s m q. m; rising = λ r e. r }
+pub narrows-none : (y : Space) (vs : List ℕ) → Narrows (λ s. true) y vs y vs
+narrows-none y vs = record { sound = λ s m. (m, refl); complete = λ s m q. m; rising = λ r e. r }
 
-pub cut-empty : (Q : ℕ → Bool) (y : Space) (vs : List ℕ) → y .some ≡ false → Cut Q y vs y vs
-cut-empty Q y vs e = record {
-  sound = λ s m. absurd (clash (y .some) (m .0) e);
-  complete = λ s m q. m;
-  rising = λ r t. r;
-}
-
-pub cut-same : (P Q : ℕ → Bool) (y : Space) (vs : List ℕ) (z : Space) (ws : List ℕ) → ((s : ℕ) → P s ≡ Q s) → Cut P y vs z ws → Cut Q y vs z ws
-cut-same P Q y vs z ws e c = record {
+pub narrows-same : (P Q : ℕ → Bool) (y : Space) (vs : List ℕ) (z : Space) (ws : List ℕ) → ((s : ℕ) → P s ≡ Q s) → Narrows P y vs z ws → Narrows Q y vs z ws
+narrows-same P Q y vs z ws e c = record {
   sound = λ s m. (let h = c .sound s m in (h .0, sym (e s) ∙ h .1));
   complete = λ s m q. c .complete s m (e s ∙ q);
   rising = c .rising;
@@ -41,9 +33,9 @@ cut-same P Q y vs z ws e c = record {
 some-member : (y : Space) (vs : List ℕ) → y .some ≡ true → Member y vs (y .lowest)
 some-member y vs e = (e, is-among vs (y .lowest) (y .lowest) (among-lowest vs (y .lowest)))
 
-pub cut-then : (P Q : ℕ → Bool) (y : Space) (vs : List ℕ) (z : Space) (ws : List ℕ) (u : Space) (us : List ℕ)
-    → Cut P y vs z ws → Cut Q z ws u us → Cut (λ s. P s && Q s) y vs u us
-cut-then P Q y vs z ws u us c d = record {
+pub narrows-then : (P Q : ℕ → Bool) (y : Space) (vs : List ℕ) (z : Space) (ws : List ℕ) (u : Space) (us : List ℕ)
+    → Narrows P y vs z ws → Narrows Q z ws u us → Narrows (λ s. P s && Q s) y vs u us
+narrows-then P Q y vs z ws u us c d = record {
   sound = λ s m. (let h = d .sound s m in let k = c .sound s (h .0) in (k .0, and-yes (P s) (Q s) (k .1) (h .1)));
   complete = λ s m q. (let h = both (P s) (Q s) q in d .complete s (c .complete s m (h .0)) (h .1));
   rising = λ r e. d .rising (c .rising r (d .sound (u .lowest) (some-member u us e) .0 .0)) e;
@@ -53,9 +45,9 @@ module _ (mask b : ℕ) (lt : b < 2) (y : Space) (vs : List ℕ) where
   abbrev low : ℕ
   low = shifted mask b (y .lowest) (pivot mask vs)
 
-  pub cut-restrict : Cut (λ s. eqb (odd s mask) b) y vs (restricted mask b vs y) (without mask vs)
+  pub narrows-restrict : Narrows (λ s. eqb (odd s mask) b) y vs (restricted mask b vs y) (without mask vs)
   unfolding restricted
-  cut-restrict = record {
+  narrows-restrict = record {
     sound = λ s m.
         (let h = both (y .some) (eqb (odd low mask) b) (m .0) in
         let k = restrict-sound mask b vs (y .lowest) (eqb-true (odd low mask) b (h .1)) s (among-is (without mask vs) low s (m .1)) in
@@ -68,4 +60,4 @@ module _ (mask b : ℕ) (lt : b < 2) (y : Space) (vs : List ℕ) where
 
 -- P is left to ask of y, Q is the whole asked of x
 abbrev pub Toward : (ℕ → Bool) → Space → List ℕ → (ℕ → Bool) → Space → List ℕ → Type 0
-Toward Q x us P y vs = (z : Space) (ws : List ℕ) → Cut P y vs z ws → Cut Q x us z ws
+Toward Q x us P y vs = (z : Space) (ws : List ℕ) → Narrows P y vs z ws → Narrows Q x us z ws
