@@ -1,8 +1,6 @@
 -- What a search finds.
---     Below found s        s is lower than what was found
 --     Reached found s      what was found is s or lower
---     Kept Passes a r      r is a, or a passing state below it
---     Finds Passes a r     and every passing state is reached by r
+--     Finds Passes a r     r is a or a passing state below it, and every passing state is reached by r
 --     kept-on, reached-on  one search after another
 --     finds-is, is-finds   r is the lower of a and the lowest state that passes: the same as an equation
 -- Passes is a property of words of 64 bits.
@@ -18,19 +16,13 @@ use Rattle.bounded.specs.Bounded.{leastBelow}
 use Rattle.bounded.proofs.Search.{LeastIs, least-is}
 use Rattle.bounded.proofs.Tests.{clash, lt-or-le}
 use Rattle.search.specs.Search.{foundOf, lower}
+use Rattle.search.specs.Code.{Below, Kept}
 use Rattle.search.specs.declared.Found.{Found}
 use Rattle.search.specs.declared.Found.the-variants.{State, Nothing}
-
-abbrev pub Below : Found → ℕ → Type 0
-Below (State b) s = s < b
-Below Nothing s = Unit {0}
 
 abbrev pub Reached : Found → ℕ → Type 0
 Reached (State b) s = b ≤ s
 Reached Nothing s = ⊥
-
-abbrev pub Kept : (ℕ → Type 0) → Found → Found → Type 0
-Kept Passes a r = (r ≡ a) ⊎ ((s : ℕ) × (r ≡ State s) × (s < 2 ^ 64) × Passes s × Below a s)
 
 pub record Finds (Passes : ℕ → Type 0) (a r : Found) : Type 0 where
   pub kept : Kept Passes a r

@@ -1,10 +1,14 @@
 -- What only contracts of functions inside the crate cite.
 --     reached found x               what was found is x or lower
 --     firstShown p table m x        the first row below m in which x shows the pattern, or m
+--     Below found s                 s is lower than what was found
+--     Kept Passes a r               r is a, or a passing state of 64 bits below it
+use mathlib.Core.Path.{_≡_}
+use mathlib.Core.Logic.{_⊎_}
 use mathlib.Core.Bool.{Bool, false}
 use mathlib.Core.Option.{Option·getD}
 use mathlib.Core.List.{List}
-use Prim.Native.Nat.{ℕ}
+use Prim.Native.Nat.{ℕ, _^_, _<_}
 use lib.Dec.{leb}
 use Rattle.bounded.specs.Bounded.{leastBelow}
 use Rattle.search.specs.Clauses.{shown}
@@ -18,3 +22,10 @@ reached (State s) x = leb s x
 
 unfoldable pub firstShown : Pattern → List ℕ → ℕ → ℕ → ℕ
 firstShown p table m x = Option·getD (leastBelow (λ t. shown p table t x) m) m
+
+abbrev pub Below : Found → ℕ → Type 0
+Below (State b) s = s < b
+Below Nothing s = Unit {0}
+
+abbrev pub Kept : (ℕ → Type 0) → Found → Found → Type 0
+Kept Passes a r = (r ≡ a) ⊎ ((s : ℕ) × (r ≡ State s) × (s < 2 ^ 64) × Passes s × Below a s)

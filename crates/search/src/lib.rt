@@ -1,11 +1,15 @@
-// The search for the lowest member of a space that shows a pattern in no row of a table: branch and bound on the first row in which the lowest member shows it.
+// The search for the lowest member of a space that shows a pattern in no row of a table: its members in rising blocks first, then branch and bound over the whole.
 ghost use mathlib.Core.Path.{_≡_};
 ghost use Prim.Native.Nat.{_+_, _*_, _≤_};
 ghost use lib.ListN.{length, take};
-ghost use Rattle.space.specs.Space.{Rising};
-ghost use Rattle.search.specs.Clauses.{shown as shownOf};
+ghost use mathlib.Core.Bool.{true, _&&_};
+ghost use Rattle.space.specs.Space.{among, Rising};
+ghost use Rattle.search.specs.Clauses.{clear, shown as shownOf};
 ghost use Rattle.search.specs.Search.{lower, lowestClear};
-ghost use Rattle.search.specs.Code.{firstShown, reached as reachedOf};
+ghost use Rattle.search.specs.Code.{firstShown, Kept, reached as reachedOf};
+
+// How many of the last vectors are left to the search of the whole space.
+const LAST_VECTORS: usize = 6;
 
 // The positions of a pattern, which are the columns of its table, and its bits there.
 pub struct Pattern {
@@ -64,8 +68,8 @@ fn first_shown(pattern: Pattern, table: &[u64], rows: usize, state: u64) -> usiz
 }
 
 // The lower of what was found before and the lowest member of the space that shows the pattern in none of the first rows. The space is its lowest member and the first vectors.
-// An inner function: its callers show that the vectors rise, so that the lowest member is the lowest, and that the table has so many rows.
-pub fn lowest_clear(
+// Branch and bound on the first row in which the lowest member shows the pattern.
+fn branch(
     pattern: Pattern,
     table: &[u64],
     rows: usize,
@@ -95,7 +99,7 @@ pub fn lowest_clear(
         let taken = space::take_out(&mut rest, left, table[first + position]);
         left = taken.left;
         if taken.pivot != 0 {
-            found = lowest_clear(
+            found = branch(
                 pattern,
                 table,
                 rows,
@@ -108,4 +112,55 @@ pub fn lowest_clear(
         position += 1;
     }
     found
+}
+
+// The same of the first members only, in rising order: those with no vector but the first, then those with one vector more, and so on. Where members that are clear are many, one of them is found here, and nothing later is lower.
+fn rise(
+    pattern: Pattern,
+    table: &[u64],
+    rows: usize,
+    lowest: u64,
+    vectors: [u64; 64],
+    free: usize,
+    before: Found,
+) -> Found
+    requires { ⌜ Rising lowest 0 (take free vectors) ⌝ }
+    requires { ⌜ rows * pattern .columns ≤ length (now table) ⌝ }
+    ensures { λ r. ⌜ Kept (λ s. (among lowest (take free vectors) s && clear pattern (now (table .entry)) rows s) ≡ true) before r ⌝ }
+{
+    let most = bounded::lesser(free, 64);
+    let mut found = before;
+    let mut vector: usize = 0;
+    while vector + LAST_VECTORS < most {
+        found = branch(
+            pattern,
+            table,
+            rows,
+            lowest ^ vectors[vector],
+            vectors,
+            vector,
+            found,
+        );
+        vector += 1;
+    }
+    found
+}
+
+// The lower of what was found before and the lowest member of the space that shows the pattern in none of the first rows. The space is its lowest member and the first vectors.
+// An inner function: its callers show that the vectors rise, so that the lowest member is the lowest, and that the table has so many rows.
+pub fn lowest_clear(
+    pattern: Pattern,
+    table: &[u64],
+    rows: usize,
+    lowest: u64,
+    vectors: [u64; 64],
+    free: usize,
+    before: Found,
+) -> Found
+    requires { ⌜ Rising lowest 0 (take free vectors) ⌝ }
+    requires { ⌜ rows * pattern .columns ≤ length (now table) ⌝ }
+    ensures { λ r. ⌜ r ≡ lower before (lowestClear pattern (now (table .entry)) rows lowest (take free vectors)) ⌝ }
+{
+    let found = rise(pattern, table, rows, lowest, vectors, free, before);
+    branch(pattern, table, rows, lowest, vectors, free, found)
 }

@@ -5,3 +5,4 @@ pub mod AllStates
 pub mod Pivot
 pub mod Taking
 pub mod Restricting
+pub mod Blocks

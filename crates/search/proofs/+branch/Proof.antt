@@ -1,4 +1,4 @@
--- `search::lowest_clear` meets its contract. Assumes nothing.
+-- `search::branch` meets its contract. Assumes nothing.
 use mathlib.Core.Path.{_≡_, sym, _∙_, ap}
 use mathlib.Core.Logic.{⊎-elim}
 use Prim.Native.Nat.{_-_, _+_, _*_, ℕ, _<_}
@@ -12,89 +12,89 @@ use Rattle.space.specs.Space.{pivot}
 use Rattle.space.specs.declared.Taken.{Taken}
 use Rattle.search.proofs.Reading.{row-fits}
 use Rattle.search.proofs.Branching.{first-none, first-some, finds-lowest-clear, lowest-clear-finds, finds-pruned, finds-lowest, Branched, branched-start, branched-same, branched-child, child-rising, child-shorter, branched-end}
-use Rattle.search.proofs.+lowest_clear.{statement}
-use Rattle.search.proofs.+lowest_clear.Tie.{close}
-use Rattle.search.proofs.lowest_clear.Reads as lowest-clear
-use Rattle.search.proofs.lowest_clear.Kinds as lowest-clear-kinds
-use Rattle.search.proofs.+lowest_clear.Lts-lowest_clear as lowest-clear-lts
+use Rattle.search.proofs.+branch.{statement}
+use Rattle.search.proofs.+branch.Tie.{close}
+use Rattle.search.proofs.branch.Reads as branch
+use Rattle.search.proofs.branch.Kinds as branch-kinds
+use Rattle.search.proofs.+branch.Lts-branch as branch-lts
 use Rattle.search.proofs.first_shown.Reads as first-shown-reads
 use Rattle.search.proofs.reached.Reads as reached-reads
 use Rattle.space.proofs.take_out.Reads as take-out-reads
 
-abbrev μ-lowest-clear : Measures 1 lowest-clear-kinds.ps ℕ
-μ-lowest-clear κs a = length (take (a .1 .1 .1 .1 .1 .0) (a .1 .1 .1 .1 .0))
+abbrev μ-branch : Measures 1 branch-kinds.ps ℕ
+μ-branch κs a = length (take (a .1 .1 .1 .1 .1 .0) (a .1 .1 .1 .1 .0))
 
-abbrev lowest-clear-at : ℕ → In 1 lowest-clear-kinds.ps
-lowest-clear-at t =
-    and 1 lowest-clear-kinds.ps (is 1 lowest-clear-kinds.ps μ-lowest-clear t) lowest-clear.Pre
+abbrev branch-at : ℕ → In 1 branch-kinds.ps
+branch-at t =
+    and 1 branch-kinds.ps (is 1 branch-kinds.ps μ-branch t) branch.Pre
 
-abbrev lowest-clear-below : ℕ → In 1 lowest-clear-kinds.ps
-lowest-clear-below t =
+abbrev branch-below : ℕ → In 1 branch-kinds.ps
+branch-below t =
     and
     1
-    lowest-clear-kinds.ps
-    (falls 1 lowest-clear-kinds.ps _<_ μ-lowest-clear t)
-    lowest-clear.Pre
+    branch-kinds.ps
+    (falls 1 branch-kinds.ps _<_ μ-branch t)
+    branch.Pre
 
-abbrev lowest-clear-Inv-loop : lowest-clear-lts.InvT-loop
-lowest-clear-Inv-loop pattern table rows lowest free row columns first rest₀ left₀ found₀ position₀ rest left found position =
+abbrev branch-Inv-loop : branch-lts.InvT-loop
+branch-Inv-loop pattern table rows lowest free row columns first rest₀ left₀ found₀ position₀ rest left found position =
     (length rest ≡ 64) × Branched pattern table rows lowest (take left₀ rest₀) found₀ row (take left rest) found position
 
-abbrev lowest-clear-μ-loop : lowest-clear-lts.MeasureT-loop
-lowest-clear-μ-loop pattern table rows lowest free row columns first rest₀ left₀ found₀ position₀ rest left found position =
+abbrev branch-μ-loop : branch-lts.MeasureT-loop
+branch-μ-loop pattern table rows lowest free row columns first rest₀ left₀ found₀ position₀ rest left found position =
     columns - position
 
-lowest-clear-reached-requires : (t : ℕ) → lowest-clear-lts.Need-reached-requires (
+branch-reached-requires : (t : ℕ) → branch-lts.Need-reached-requires (
   reached-reads.Asked,
   reached-reads.Learnt,
   first-shown-reads.Asked,
   first-shown-reads.Learnt,
   take-out-reads.Asked,
   take-out-reads.Learnt,
-  lowest-clear-below t,
-  lowest-clear.Post,
-) (lowest-clear-at t) lowest-clear.Post lowest-clear-Inv-loop lowest-clear-μ-loop
-lowest-clear-reached-requires t c κs = search needs
+  branch-below t,
+  branch.Post,
+) (branch-at t) branch.Post branch-Inv-loop branch-μ-loop
+branch-reached-requires t c κs = search needs
 
-lowest-clear-returns : (t : ℕ) → lowest-clear-lts.Need-returns (
+branch-returns : (t : ℕ) → branch-lts.Need-returns (
   reached-reads.Asked,
   reached-reads.Learnt,
   first-shown-reads.Asked,
   first-shown-reads.Learnt,
   take-out-reads.Asked,
   take-out-reads.Learnt,
-  lowest-clear-below t,
-  lowest-clear.Post,
-) (lowest-clear-at t) lowest-clear.Post lowest-clear-Inv-loop lowest-clear-μ-loop
-lowest-clear-returns t c =
+  branch-below t,
+  branch.Post,
+) (branch-at t) branch.Post branch-Inv-loop branch-μ-loop
+branch-returns t c =
     let s = c .before .before .before in
     let a = s .args in
     finds-lowest-clear (a .pattern) (a .table .now) (a .rows) (a .lowest) (take (a .free) (a .vectors)) (a .before) (a .before)
     (finds-pruned (a .pattern) (a .table .now) (a .rows) (a .lowest) (take (a .free) (a .vectors)) (a .before) (s .pre .1 .0) (sym (c .before .reached .ensures) ∙ c .if1 .taken))
 
-lowest-clear-first-shown-requires : (t : ℕ) → lowest-clear-lts.Need-first-shown-requires (
+branch-first-shown-requires : (t : ℕ) → branch-lts.Need-first-shown-requires (
   reached-reads.Asked,
   reached-reads.Learnt,
   first-shown-reads.Asked,
   first-shown-reads.Learnt,
   take-out-reads.Asked,
   take-out-reads.Learnt,
-  lowest-clear-below t,
-  lowest-clear.Post,
-) (lowest-clear-at t) lowest-clear.Post lowest-clear-Inv-loop lowest-clear-μ-loop
-lowest-clear-first-shown-requires t c κs = search needs
+  branch-below t,
+  branch.Post,
+) (branch-at t) branch.Post branch-Inv-loop branch-μ-loop
+branch-first-shown-requires t c κs = search needs
 
-lowest-clear-returns-2 : (t : ℕ) → lowest-clear-lts.Need-returns-2 (
+branch-returns-2 : (t : ℕ) → branch-lts.Need-returns-2 (
   reached-reads.Asked,
   reached-reads.Learnt,
   first-shown-reads.Asked,
   first-shown-reads.Learnt,
   take-out-reads.Asked,
   take-out-reads.Learnt,
-  lowest-clear-below t,
-  lowest-clear.Post,
-) (lowest-clear-at t) lowest-clear.Post lowest-clear-Inv-loop lowest-clear-μ-loop
-lowest-clear-returns-2 t c =
+  branch-below t,
+  branch.Post,
+) (branch-at t) branch.Post branch-Inv-loop branch-μ-loop
+branch-returns-2 t c =
     let s = c .before .before .before .before .before in
     let a = s .args in
     finds-lowest-clear (a .pattern) (a .table .now) (a .rows) (a .lowest) (take (a .free) (a .vectors)) (a .before) _
@@ -102,17 +102,17 @@ lowest-clear-returns-2 t c =
     (sym (c .before .before .before .reached .ensures) ∙ c .before .before .if1 .left)
     (first-none (a .pattern) (a .table .now) (a .rows) (a .lowest) (c .before .first-shown .result) (c .before .first-shown .ensures) (c .if2 .taken)))
 
-lowest-clear-mul-first : (t : ℕ) → lowest-clear-lts.Need-mul-first (
+branch-mul-first : (t : ℕ) → branch-lts.Need-mul-first (
   reached-reads.Asked,
   reached-reads.Learnt,
   first-shown-reads.Asked,
   first-shown-reads.Learnt,
   take-out-reads.Asked,
   take-out-reads.Learnt,
-  lowest-clear-below t,
-  lowest-clear.Post,
-) (lowest-clear-at t) lowest-clear.Post lowest-clear-Inv-loop lowest-clear-μ-loop
-lowest-clear-mul-first t c =
+  branch-below t,
+  branch.Post,
+) (branch-at t) branch.Post branch-Inv-loop branch-μ-loop
+branch-mul-first t c =
     let s = c .before .before .before .before .before in
     let a = s .args in
     let r = c .before .first-shown in
@@ -120,44 +120,44 @@ lowest-clear-mul-first t c =
     let g = row-fits (r .result) (a .rows) (a .pattern .columns) (length (a .table .now)) (f .0) (s .pre .1 .1) in
     search needs
 
-lowest-clear-loop-holds : (t : ℕ) → lowest-clear-lts.Need-loop-holds (
+branch-loop-holds : (t : ℕ) → branch-lts.Need-loop-holds (
   reached-reads.Asked,
   reached-reads.Learnt,
   first-shown-reads.Asked,
   first-shown-reads.Learnt,
   take-out-reads.Asked,
   take-out-reads.Learnt,
-  lowest-clear-below t,
-  lowest-clear.Post,
-) (lowest-clear-at t) lowest-clear.Post lowest-clear-Inv-loop lowest-clear-μ-loop
-lowest-clear-loop-holds t c =
+  branch-below t,
+  branch.Post,
+) (branch-at t) branch.Post branch-Inv-loop branch-μ-loop
+branch-loop-holds t c =
     let s = c .before .before .before .before .before in
     let a = s .args in
     (search needs, branched-start (a .pattern) (a .table .now) (a .rows) (a .lowest) (take (a .free) (a .vectors)) (a .before) (c .before .first-shown .result) (s .pre .1 .0))
 
-lowest-clear-slice-aggregate-take-out : (t : ℕ) → lowest-clear-lts.Need-slice-aggregate-take-out (
+branch-slice-aggregate-take-out : (t : ℕ) → branch-lts.Need-slice-aggregate-take-out (
   reached-reads.Asked,
   reached-reads.Learnt,
   first-shown-reads.Asked,
   first-shown-reads.Learnt,
   take-out-reads.Asked,
   take-out-reads.Learnt,
-  lowest-clear-below t,
-  lowest-clear.Post,
-) (lowest-clear-at t) lowest-clear.Post lowest-clear-Inv-loop lowest-clear-μ-loop
-lowest-clear-slice-aggregate-take-out t c = search needs
+  branch-below t,
+  branch.Post,
+) (branch-at t) branch.Post branch-Inv-loop branch-μ-loop
+branch-slice-aggregate-take-out t c = search needs
 
-lowest-clear-add-take-out : (t : ℕ) → lowest-clear-lts.Need-add-take-out (
+branch-add-take-out : (t : ℕ) → branch-lts.Need-add-take-out (
   reached-reads.Asked,
   reached-reads.Learnt,
   first-shown-reads.Asked,
   first-shown-reads.Learnt,
   take-out-reads.Asked,
   take-out-reads.Learnt,
-  lowest-clear-below t,
-  lowest-clear.Post,
-) (lowest-clear-at t) lowest-clear.Post lowest-clear-Inv-loop lowest-clear-μ-loop
-lowest-clear-add-take-out t c =
+  branch-below t,
+  branch.Post,
+) (branch-at t) branch.Post branch-Inv-loop branch-μ-loop
+branch-add-take-out t c =
     let i = c .before .before .before in
     let s = i .before .before .before .before .before in
     let a = s .args in
@@ -166,17 +166,17 @@ lowest-clear-add-take-out t c =
     let g = row-fits (r .result) (a .rows) (a .pattern .columns) (length (a .table .now)) (f .0) (s .pre .1 .1) in
     search needs
 
-lowest-clear-mul-take-out : (t : ℕ) → lowest-clear-lts.Need-mul-take-out (
+branch-mul-take-out : (t : ℕ) → branch-lts.Need-mul-take-out (
   reached-reads.Asked,
   reached-reads.Learnt,
   first-shown-reads.Asked,
   first-shown-reads.Learnt,
   take-out-reads.Asked,
   take-out-reads.Learnt,
-  lowest-clear-below t,
-  lowest-clear.Post,
-) (lowest-clear-at t) lowest-clear.Post lowest-clear-Inv-loop lowest-clear-μ-loop
-lowest-clear-mul-take-out t c =
+  branch-below t,
+  branch.Post,
+) (branch-at t) branch.Post branch-Inv-loop branch-μ-loop
+branch-mul-take-out t c =
     let i = c .before .before .before in
     let s = i .before .before .before .before .before in
     let a = s .args in
@@ -185,18 +185,18 @@ lowest-clear-mul-take-out t c =
     let g = row-fits (r .result) (a .rows) (a .pattern .columns) (length (a .table .now)) (f .0) (s .pre .1 .1) in
     search needs
 
-lowest-clear-shared-slice-read-take-out :
-    (t : ℕ) → lowest-clear-lts.Need-shared-slice-read-take-out (
+branch-shared-slice-read-take-out :
+    (t : ℕ) → branch-lts.Need-shared-slice-read-take-out (
       reached-reads.Asked,
       reached-reads.Learnt,
       first-shown-reads.Asked,
       first-shown-reads.Learnt,
       take-out-reads.Asked,
       take-out-reads.Learnt,
-      lowest-clear-below t,
-      lowest-clear.Post,
-    ) (lowest-clear-at t) lowest-clear.Post lowest-clear-Inv-loop lowest-clear-μ-loop
-lowest-clear-shared-slice-read-take-out t c =
+      branch-below t,
+      branch.Post,
+    ) (branch-at t) branch.Post branch-Inv-loop branch-μ-loop
+branch-shared-slice-read-take-out t c =
     let i = c .before .before .before .before in
     let s = i .before .before .before .before .before in
     let a = s .args in
@@ -205,29 +205,29 @@ lowest-clear-shared-slice-read-take-out t c =
     let g = row-fits (r .result) (a .rows) (a .pattern .columns) (length (a .table .now)) (f .0) (s .pre .1 .1) in
     search needs
 
-lowest-clear-take-out-requires : (t : ℕ) → lowest-clear-lts.Need-take-out-requires (
+branch-take-out-requires : (t : ℕ) → branch-lts.Need-take-out-requires (
   reached-reads.Asked,
   reached-reads.Learnt,
   first-shown-reads.Asked,
   first-shown-reads.Learnt,
   take-out-reads.Asked,
   take-out-reads.Learnt,
-  lowest-clear-below t,
-  lowest-clear.Post,
-) (lowest-clear-at t) lowest-clear.Post lowest-clear-Inv-loop lowest-clear-μ-loop
-lowest-clear-take-out-requires t c κs = search needs
+  branch-below t,
+  branch.Post,
+) (branch-at t) branch.Post branch-Inv-loop branch-μ-loop
+branch-take-out-requires t c κs = search needs
 
-lowest-clear-lowest-clear-requires : (t : ℕ) → lowest-clear-lts.Need-lowest-clear-requires (
+branch-branch-requires : (t : ℕ) → branch-lts.Need-branch-requires (
   reached-reads.Asked,
   reached-reads.Learnt,
   first-shown-reads.Asked,
   first-shown-reads.Learnt,
   take-out-reads.Asked,
   take-out-reads.Learnt,
-  lowest-clear-below t,
-  lowest-clear.Post,
-) (lowest-clear-at t) lowest-clear.Post lowest-clear-Inv-loop lowest-clear-μ-loop
-lowest-clear-lowest-clear-requires t c κs =
+  branch-below t,
+  branch.Post,
+) (branch-at t) branch.Post branch-Inv-loop branch-μ-loop
+branch-branch-requires t c κs =
     let l = c .before .before .before .before .before .before .before .before .loop in
     let i = c .before .before .before .before .before .before .before .before .before in
     let s = i .before .before .before .before .before in
@@ -243,41 +243,41 @@ lowest-clear-lowest-clear-requires t c κs =
       (rw (w, e) (child-rising (a .pattern) (a .table .now) (a .rows) (a .lowest) (take (a .free) (a .vectors)) (a .before) (r .result) (take (l .left) (l .rest)) (l .found) (l .found) (l .position) lt n (l .inv .1)), s .pre .1 .1),
     )
 
-lowest-clear-add-position : (t : ℕ) → lowest-clear-lts.Need-add-position (
+branch-add-position : (t : ℕ) → branch-lts.Need-add-position (
   reached-reads.Asked,
   reached-reads.Learnt,
   first-shown-reads.Asked,
   first-shown-reads.Learnt,
   take-out-reads.Asked,
   take-out-reads.Learnt,
-  lowest-clear-below t,
-  lowest-clear.Post,
-) (lowest-clear-at t) lowest-clear.Post lowest-clear-Inv-loop lowest-clear-μ-loop
-lowest-clear-add-position t c = search needs
+  branch-below t,
+  branch.Post,
+) (branch-at t) branch.Post branch-Inv-loop branch-μ-loop
+branch-add-position t c = search needs
 
-lowest-clear-loop-less : (t : ℕ) → lowest-clear-lts.Need-loop-less (
+branch-loop-less : (t : ℕ) → branch-lts.Need-loop-less (
   reached-reads.Asked,
   reached-reads.Learnt,
   first-shown-reads.Asked,
   first-shown-reads.Learnt,
   take-out-reads.Asked,
   take-out-reads.Learnt,
-  lowest-clear-below t,
-  lowest-clear.Post,
-) (lowest-clear-at t) lowest-clear.Post lowest-clear-Inv-loop lowest-clear-μ-loop
-lowest-clear-loop-less t c = search needs
+  branch-below t,
+  branch.Post,
+) (branch-at t) branch.Post branch-Inv-loop branch-μ-loop
+branch-loop-less t c = search needs
 
-lowest-clear-loop-again : (t : ℕ) → lowest-clear-lts.Need-loop-again (
+branch-loop-again : (t : ℕ) → branch-lts.Need-loop-again (
   reached-reads.Asked,
   reached-reads.Learnt,
   first-shown-reads.Asked,
   first-shown-reads.Learnt,
   take-out-reads.Asked,
   take-out-reads.Learnt,
-  lowest-clear-below t,
-  lowest-clear.Post,
-) (lowest-clear-at t) lowest-clear.Post lowest-clear-Inv-loop lowest-clear-μ-loop
-lowest-clear-loop-again t c =
+  branch-below t,
+  branch.Post,
+) (branch-at t) branch.Post branch-Inv-loop branch-μ-loop
+branch-loop-again t c =
     let l = c .before .before .before .before .before .before .before .loop in
     let i = c .before .before .before .before .before .before .before .before in
     let s = i .before .before .before .before .before in
@@ -297,17 +297,17 @@ lowest-clear-loop-again t c =
           (c .if3 .came)),
     )
 
-lowest-clear-returns-3 : (t : ℕ) → lowest-clear-lts.Need-returns-3 (
+branch-returns-3 : (t : ℕ) → branch-lts.Need-returns-3 (
   reached-reads.Asked,
   reached-reads.Learnt,
   first-shown-reads.Asked,
   first-shown-reads.Learnt,
   take-out-reads.Asked,
   take-out-reads.Learnt,
-  lowest-clear-below t,
-  lowest-clear.Post,
-) (lowest-clear-at t) lowest-clear.Post lowest-clear-Inv-loop lowest-clear-μ-loop
-lowest-clear-returns-3 t c =
+  branch-below t,
+  branch.Post,
+) (branch-at t) branch.Post branch-Inv-loop branch-μ-loop
+branch-returns-3 t c =
     let l = c .before .loop in
     let i = c .before .before in
     let s = i .before .before .before .before .before in
@@ -317,34 +317,34 @@ lowest-clear-returns-3 t c =
     finds-lowest-clear (a .pattern) (a .table .now) (a .rows) (a .lowest) (take (a .free) (a .vectors)) (a .before) (l .found)
     (branched-end (a .pattern) (a .table .now) (a .rows) (a .lowest) (take (a .free) (a .vectors)) (a .before) (t .result) (take (l .left) (l .rest)) (l .found) (l .position) (omega arith) (f .0) (s .pre .1 .1) (f .1) (l .inv .1))
 
-pub +lowest-clear-spec : {M : Type 1} → statement M
-+lowest-clear-spec = close μ-lowest-clear λ t. lowest-clear-lts.spec (
+pub +branch-spec : {M : Type 1} → statement M
++branch-spec = close μ-branch λ t. branch-lts.spec (
   reached-reads.Asked,
   reached-reads.Learnt,
   first-shown-reads.Asked,
   first-shown-reads.Learnt,
   take-out-reads.Asked,
   take-out-reads.Learnt,
-  lowest-clear-below t,
-  lowest-clear.Post,
+  branch-below t,
+  branch.Post,
 )
-    (lowest-clear-at t)
-    lowest-clear.Post
-    lowest-clear-Inv-loop
-    lowest-clear-μ-loop
-    (lowest-clear-reached-requires t)
-    (lowest-clear-returns t)
-    (lowest-clear-first-shown-requires t)
-    (lowest-clear-returns-2 t)
-    (lowest-clear-mul-first t)
-    (lowest-clear-loop-holds t)
-    (lowest-clear-slice-aggregate-take-out t)
-    (lowest-clear-add-take-out t)
-    (lowest-clear-mul-take-out t)
-    (lowest-clear-shared-slice-read-take-out t)
-    (lowest-clear-take-out-requires t)
-    (lowest-clear-lowest-clear-requires t)
-    (lowest-clear-add-position t)
-    (lowest-clear-loop-less t)
-    (lowest-clear-loop-again t)
-    (lowest-clear-returns-3 t)
+    (branch-at t)
+    branch.Post
+    branch-Inv-loop
+    branch-μ-loop
+    (branch-reached-requires t)
+    (branch-returns t)
+    (branch-first-shown-requires t)
+    (branch-returns-2 t)
+    (branch-mul-first t)
+    (branch-loop-holds t)
+    (branch-slice-aggregate-take-out t)
+    (branch-add-take-out t)
+    (branch-mul-take-out t)
+    (branch-shared-slice-read-take-out t)
+    (branch-take-out-requires t)
+    (branch-branch-requires t)
+    (branch-add-position t)
+    (branch-loop-less t)
+    (branch-loop-again t)
+    (branch-returns-3 t)
