@@ -1,12 +1,12 @@
 // The search for the lowest member of a space that shows a pattern in no row of a table: its members in rising blocks first, then branch and bound over the whole.
 ghost use mathlib.Core.Path.{_≡_};
-ghost use Prim.Native.Nat.{_+_, _*_, _≤_};
+ghost use Prim.Native.Nat.{ℕ, _+_, _*_, _≤_};
 ghost use lib.ListN.{length, take};
-ghost use mathlib.Core.Bool.{true, _&&_};
+ghost use mathlib.Core.Bool.{true, false, _&&_};
 ghost use Rattle.space.specs.Space.{among, Rising};
-ghost use Rattle.search.specs.Clauses.{clear, shown as shownOf};
+ghost use Rattle.search.specs.Clauses.{clear, row as rowOf, shown as shownOf};
 ghost use Rattle.search.specs.Search.{lower, lowestClear};
-ghost use Rattle.search.specs.Code.{firstShown, Kept, reached as reachedOf};
+ghost use Rattle.search.specs.Code.{firstShown, Kept, reached as reachedOf, varies as variesOf};
 
 // How many of the last vectors are left to the search of the whole space.
 const LAST_VECTORS: usize = 6;
@@ -50,6 +50,47 @@ fn shown(pattern: Pattern, table: &[u64], row: usize, state: u64) -> bool
         column += 1;
     }
     true
+}
+
+// Whether some member reads a row otherwise than another: a vector is odd under one of its masks.
+fn varies(pattern: Pattern, table: &[u64], row: usize, vectors: &[u64], free: usize) -> bool
+    requires { ⌜ row * pattern .columns + pattern .columns ≤ length (now table) ⌝ }
+    ensures { λ r. ⌜ r ≡ variesOf (rowOf (pattern .columns) (now (table .entry)) row) (take free (now (vectors .entry))) ⌝ }
+{
+    let columns = pattern.columns;
+    let first = row * columns;
+    let mut column: usize = 0;
+    while column < columns {
+        if space::splits(vectors, free, table[first + column]) {
+            return true;
+        }
+        column += 1;
+    }
+    false
+}
+
+// Whether every member shows the pattern in one row, so that none is clear. A short period of the register makes such rows.
+fn hopeless(
+    pattern: Pattern,
+    table: &[u64],
+    rows: usize,
+    lowest: u64,
+    vectors: &[u64],
+    free: usize,
+) -> bool
+    requires { ⌜ rows * pattern .columns ≤ length (now table) ⌝ }
+    ensures { λ r. ⌜ (r ≡ true → (s : ℕ) → among lowest (take free (now (vectors .entry))) s ≡ true → clear pattern (now (table .entry)) rows s ≡ false) ⌝ }
+{
+    let mut row: usize = 0;
+    while row < rows {
+        if shown(pattern, table, row, lowest) {
+            if !varies(pattern, table, row, vectors, free) {
+                return true;
+            }
+        }
+        row += 1;
+    }
+    false
 }
 
 // The first row below the bound in which a state shows the pattern, or the bound.
@@ -161,6 +202,9 @@ pub fn lowest_clear(
     requires { ⌜ rows * pattern .columns ≤ length (now table) ⌝ }
     ensures { λ r. ⌜ r ≡ lower before (lowestClear pattern (now (table .entry)) rows lowest (take free vectors)) ⌝ }
 {
+    if hopeless(pattern, table, rows, lowest, &vectors, free) {
+        return before;
+    }
     let found = rise(pattern, table, rows, lowest, vectors, free, before);
     branch(pattern, table, rows, lowest, vectors, free, found)
 }

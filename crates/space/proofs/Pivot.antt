@@ -1,5 +1,6 @@
 -- The pivot of a mask taken out of a space.
 --     added-even, added-odd, pivot-even, pivot-odd, without-even, without-odd     one vector more, by its parity
+--     odd-some          an odd vector is not 0
 --     no-pivot          without a pivot all members have one parity
 --     kept-alike        what is left are members of the parity of x
 --     alike-kept        and all of them
@@ -57,8 +58,7 @@ module _ (mask : ℕ) where
   unfolding without
   without-odd v vs e = rw (eq-eqb (odd v mask) 1 e, without)
 
-  -- an odd vector is not 0
-  odd-some : (v : ℕ) → odd v mask ≡ 1 → v ≡ 0 → ⊥
+  pub odd-some : (v : ℕ) → odd v mask ≡ 1 → v ≡ 0 → ⊥
   odd-some v e z = let q : odd v mask ≡ 0 = ap (λ (y : ℕ). odd y mask) z ∙ odd-zero-l mask in omega arith
 
   same-parity : (y v s : ℕ) → odd v mask ≡ 0 → odd s mask ≡ odd y mask → odd s mask ≡ odd (bitXor y v) mask

@@ -5,22 +5,24 @@
 --     closed                     so the vectors that are left come first
 --     place-lt, taken-none, taken-some     the answer of `take_out`
 --     taken-left                 the vectors that are left, read off the buffer
+--     splits-is                  the answer of `splits`
 -- Assumes nothing.
-use mathlib.Core.Path.{_≡_, refl, sym, ap, _∙_}
+use mathlib.Core.Path.{_≡_, refl, sym, ap, _∙_, subst}
 use mathlib.Core.Logic.{⊎-elim}
 use mathlib.Core.List.{List, [], _∷_, _++_, map, append-assoc}
 use Prim.Native.Nat.{ℕ, zero, suc, _+_, _-_, _≤_, _<_, min}
 use native.Mathlib.Numerals.{add-one}
 use native.Mathlib.Omega.{arith}
+use lib.Dec.{ltb}
 use lib.ListN.{take-append-drop, getD, length, take, drop, set, length-append, length-drop, length-map, drop-of-length-le}
 use lib.Seq.{take-all, take-at, sets, sets-eq, drop-cons, drop-set-lt, drop-length, getD-take, length-take-le, take-take, take-set-lt}
-use borrow.Author.Tests.{eq-eqb, ne-eqb}
-use Rattle.bounded.proofs.Tests.{lt-or-le}
+use borrow.Author.Tests.{eq-eqb, ne-eqb, lt-ltb, le-ltb}
+use Rattle.bounded.proofs.Tests.{eq-or-not, lt-or-le}
 use Rattle.gf2.specs.Words.{odd}
 use Rattle.space.specs.Space.{added, pivot, without}
 use Rattle.space.specs.Code.{firstOdd}
 use Rattle.space.specs.declared.Taken.{Taken}
-use Rattle.space.proofs.Pivot.{parity, pivot-even, pivot-odd, without-even, without-odd}
+use Rattle.space.proofs.Pivot.{odd-some, parity, pivot-even, pivot-odd, without-even, without-odd}
 
 module _ (mask : ℕ) where
   here : (v : ℕ) (vs : List ℕ) → odd v mask ≡ 1 → firstOdd mask (v ∷ vs) ≡ 0
@@ -174,3 +176,23 @@ module _ (mask f : ℕ) (vs : List ℕ) (n : ℕ) (count : n ≡ min f (length v
 pub taken-left : (mask : ℕ) (vs out rest : List ℕ) (t : Taken) → t ≡ record { pivot = pivot mask vs; left = length (without mask vs) }
     → out ≡ without mask vs ++ rest → take (t .left) out ≡ without mask vs
 taken-left mask vs out rest t e q = rw (e, q) (take-at (without mask vs) rest (length (without mask vs)) refl)
+
+-- ---- the answer of `splits`
+
+place-pivot : (mask : ℕ) (vs : List ℕ) → firstOdd mask vs < length vs → pivot mask vs ≡ 0 → ⊥
+place-pivot mask [] h z = absurd (omega arith)
+place-pivot mask (v ∷ vs) h z = ⊎-elim
+    (λ e. place-pivot mask vs (omega (arith, later mask v vs e)) (sym (pivot-even mask v vs e) ∙ z))
+    (λ e. odd-some mask v e (sym (pivot-odd mask v vs e) ∙ z))
+    (parity mask v)
+
+module _ (mask f : ℕ) (vs : List ℕ) (n i : ℕ) (count : n ≡ min f (length vs)) (place : i ≡ firstOdd mask (take n vs)) where
+  pub splits-is : ltb i n ≡ ltb 0 (pivot mask (take f vs))
+  splits-is = ⊎-elim
+      (λ e. rw (le-ltb i n (omega arith), le-ltb 0 (pivot mask (take f vs)) (omega (arith, taken-none mask f vs n count (sym place ∙ e) .0))))
+      (λ ne.
+      let h = place-lt mask vs n i (omega arith) place ne in
+      let p = place-pivot mask (take n vs) (omega (arith, length-take-le n vs (omega arith))) in
+      let q : pivot mask (take f vs) ≡ 0 → ⊥ = subst (λ (l : List ℕ). pivot mask l ≡ 0 → ⊥) (whole mask f vs n count) p in
+      rw (lt-ltb i n h, lt-ltb 0 (pivot mask (take f vs)) (omega arith)))
+      (eq-or-not i n)

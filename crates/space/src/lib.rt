@@ -3,6 +3,7 @@ ghost use mathlib.Core.Path.{_≡_};
 ghost use mathlib.Core.List.{map, _++_};
 ghost use Prim.Native.Nat.{_+_, _<_, _≤_};
 ghost use lib.ListN.{drop, getD, length, take};
+ghost use lib.Dec.{ltb};
 ghost use lib.Seq.{sets};
 ghost use Rattle.space.specs.Space.{added as addedOf, pivot, restricted, shifted as shiftedOf, units as unitsOf, without};
 ghost use Rattle.space.specs.Code.{firstOdd};
@@ -46,6 +47,14 @@ fn first_odd(vectors: &[u64], free: usize, mask: u64) -> usize
         place += 1;
     }
     place
+}
+
+// Whether some of the first vectors of the buffer is odd under the mask, so that members differ there.
+pub fn splits(vectors: &[u64], free: usize, mask: u64) -> bool
+    ensures { λ r. ⌜ r ≡ ltb 0 (pivot mask (take free (now (vectors .entry)))) ⌝ }
+{
+    let count = bounded::lesser(free, vectors.len());
+    first_odd(vectors, count, mask) < count
 }
 
 // A vector, with the pivot added where it is odd under the mask.
