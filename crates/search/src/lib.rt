@@ -81,14 +81,14 @@ fn hopeless(
     requires { ⌜ rows * pattern .columns ≤ length (now table) ⌝ }
     ensures { λ r. ⌜ (r ≡ true → (s : ℕ) → among lowest (take free (now (vectors .entry))) s ≡ true → clear pattern (now (table .entry)) rows s ≡ false) ⌝ }
 {
-    let mut row: usize = 0;
-    while row < rows {
-        if shown(pattern, table, row, lowest) {
-            if !varies(pattern, table, row, vectors, free) {
+    let mut place: usize = 0;
+    while place < rows {
+        if shown(pattern, table, place, lowest) {
+            if !varies(pattern, table, place, vectors, free) {
                 return true;
             }
         }
-        row += 1;
+        place += 1;
     }
     false
 }

@@ -13,10 +13,10 @@ use Rattle.search.proofs.hopeless.Statement.{statement}
 use Rattle.search.proofs.hopeless.Tie as tie
 
 abbrev Inv-loop : tie.InvT-loop
-Inv-loop pattern table rows lowest vectors free row₀ row = row ≤ rows
+Inv-loop pattern table rows lowest vectors free place₀ place = place ≤ rows
 
 abbrev μ-loop : tie.MeasureT-loop
-μ-loop pattern table rows lowest vectors free row₀ row = rows - row
+μ-loop pattern table rows lowest vectors free place₀ place = rows - place
 
 loop-holds : tie.Need-loop-holds Inv-loop μ-loop
 loop-holds c = search needs
@@ -24,12 +24,12 @@ loop-holds c = search needs
 shown-requires : tie.Need-shown-requires Inv-loop μ-loop
 shown-requires c κs =
     let s = c .before .before .before .before in
-    row-fits (c .before .loop .row) (s .args .rows) (s .args .pattern .columns) (length (s .args .table .now)) (omega arith) (s .pre)
+    row-fits (c .before .loop .place) (s .args .rows) (s .args .pattern .columns) (length (s .args .table .now)) (omega arith) (s .pre)
 
 varies-requires : tie.Need-varies-requires Inv-loop μ-loop
 varies-requires c κs =
     let s = c .before .before .before .before .before .before in
-    row-fits (c .before .before .before .loop .row) (s .args .rows) (s .args .pattern .columns) (length (s .args .table .now)) (omega arith) (s .pre)
+    row-fits (c .before .before .before .loop .place) (s .args .rows) (s .args .pattern .columns) (length (s .args .table .now)) (omega arith) (s .pre)
 
 returns : tie.Need-returns Inv-loop μ-loop
 returns c =
@@ -38,10 +38,10 @@ returns c =
     let l = c .before .before .before .before .before .loop in
     let e = sym (c .before .before .before .shown .ensures) ∙ c .before .before .if1 .taken in
     let v = sym (c .before .varies .ensures) ∙ not-true (c .before .varies .result) (c .if2 .taken) in
-    λ q. all-show (a .pattern) (a .table .now) (a .rows) (a .lowest) (take (a .free) (a .vectors .now)) (l .row) (omega arith) e v
+    λ q. all-show (a .pattern) (a .table .now) (a .rows) (a .lowest) (take (a .free) (a .vectors .now)) (l .place) (omega arith) e v
 
-add-row : tie.Need-add-row Inv-loop μ-loop
-add-row c = search needs
+add-place : tie.Need-add-place Inv-loop μ-loop
+add-place c = search needs
 
 loop-less : tie.Need-loop-less Inv-loop μ-loop
 loop-less c = search needs
@@ -62,7 +62,7 @@ hopeless-spec =
     shown-requires
     varies-requires
     returns
-    add-row
+    add-place
     loop-less
     loop-again
     returns-2)
