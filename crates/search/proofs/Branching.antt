@@ -1,6 +1,8 @@
 -- What the search keeps while it branches on a row in which the lowest member x shows the pattern: column by column, the members that read otherwise than x are searched, and those that read as x does are the rest.
 --     shown-first, shown-never     the first row in which a state shows the pattern, of a loop that goes up
 --     first-none, first-some       what it says
+--     Passes, passes-test, test-passes     the clear members of a space, and the test for them
+--     finds-lowest-clear, lowest-clear-finds     what a search of it finds, as an equation
 --     Branched            the rest reads the columns passed as x does; whatever else is clear is reached
 --     branched-start, branched-same, branched-child, branched-end     at the start, without a pivot, with a child that was searched, and at the end
 --     finds-pruned, finds-lowest     nothing here is lower; x itself is clear
@@ -27,8 +29,8 @@ use Rattle.space.specs.Space.{among, pivot, without, Rising}
 use Rattle.space.proofs.Members.{Among, among-is, is-among, among-lowest, lowest-among}
 use Rattle.space.proofs.Pivot.{no-pivot, kept-alike, alike-kept, pivot-moves, pivot-parity, without-same, without-shorter, rising-kept, rising-moved}
 use Rattle.search.specs.Clauses.{row, reads, shown, clear}
-use Rattle.search.specs.Code.{Below, Kept, firstShown, reached}
-use Rattle.search.specs.Search.{lower, lowestClear}
+use Rattle.search.specs.Code.{Below, Kept, firstShown, lower, reached}
+use Rattle.search.specs.Search.{lowestClear}
 use Rattle.search.specs.declared.Found.{Found}
 use Rattle.search.specs.declared.Found.the-variants.{State, Nothing}
 use Rattle.search.specs.declared.Pattern.{Pattern}
@@ -73,10 +75,10 @@ module _ (p : Pattern) (table : List ℕ) (m : ℕ) where
   abbrev pub Passes : ℕ → List ℕ → ℕ → Type 0
   Passes x vs s = Among x vs s × (clear p table m s ≡ true)
 
-  passes-test : (x : ℕ) (vs : List ℕ) (s : ℕ) → Passes x vs s → (among x vs s && clear p table m s) ≡ true
+  pub passes-test : (x : ℕ) (vs : List ℕ) (s : ℕ) → Passes x vs s → (among x vs s && clear p table m s) ≡ true
   passes-test x vs s h = and-yes (among x vs s) (clear p table m s) (is-among vs x s (h .0)) (h .1)
 
-  test-passes : (x : ℕ) (vs : List ℕ) (s : ℕ) → (among x vs s && clear p table m s) ≡ true → Passes x vs s
+  pub test-passes : (x : ℕ) (vs : List ℕ) (s : ℕ) → (among x vs s && clear p table m s) ≡ true → Passes x vs s
   test-passes x vs s t = let h = both (among x vs s) (clear p table m s) t in (among-is vs x s (h .0), h .1)
 
   finds-map : (P Q : ℕ → Type 0) (a r : Found) → ((s : ℕ) → P s → Q s) → ((s : ℕ) → Q s → P s) → Finds P a r → Finds Q a r

@@ -1,4 +1,5 @@
 -- What a search finds.
+--     state-some, nothing-none     a state was found, or nothing
 --     Reached found s      what was found is s or lower
 --     Finds Passes a r     r is a or a passing state below it, and every passing state is reached by r
 --     kept-on, reached-on  one search after another
@@ -15,10 +16,18 @@ use borrow.Author.Tests.{le-leb, lt-leb}
 use Rattle.bounded.specs.Bounded.{leastBelow}
 use Rattle.bounded.proofs.Search.{LeastIs, least-is}
 use Rattle.bounded.proofs.Tests.{clash, lt-or-le}
-use Rattle.search.specs.Search.{foundOf, lower}
-use Rattle.search.specs.Code.{Below, Kept}
+use Rattle.search.specs.Search.{foundOf}
+use Rattle.search.specs.Code.{Below, Kept, lower}
 use Rattle.search.specs.declared.Found.{Found}
 use Rattle.search.specs.declared.Found.the-variants.{State, Nothing}
+
+pub state-some : (o : Option ℕ) (s : ℕ) → foundOf o ≡ State s → o ≡ some s
+state-some none s e = absurd (let z : _≡_ {A = ℕ} 0 1 = cc in omega arith)
+state-some (some t) s e = ap some (let q : t ≡ s = cc in q)
+
+pub nothing-none : (o : Option ℕ) → foundOf o ≡ Nothing → o ≡ none
+nothing-none none e = refl
+nothing-none (some t) e = absurd (let z : _≡_ {A = ℕ} 0 1 = cc in omega arith)
 
 abbrev pub Reached : Found → ℕ → Type 0
 Reached (State b) s = b ≤ s

@@ -20,8 +20,8 @@ use Rattle.space.specs.Space.{among, pivot}
 use Rattle.space.proofs.Members.{Among, among-is, is-among}
 use Rattle.space.proofs.Pivot.{no-pivot}
 use Rattle.search.specs.Clauses.{row, shown, clear}
-use Rattle.search.specs.Code.{varies}
-use Rattle.search.specs.Search.{lower, lowestClear}
+use Rattle.search.specs.Code.{lower, varies}
+use Rattle.search.specs.Search.{lowestClear}
 use Rattle.search.specs.declared.Found.{Found}
 use Rattle.search.specs.declared.Pattern.{Pattern}
 use Rattle.search.proofs.Reading.{row-length, row-at, reads-alike, clear-at}

@@ -1,4 +1,5 @@
 -- What only contracts of functions inside the crate cite.
+--     lower a b                     the lower of two that were found
 --     reached found x               what was found is x or lower
 --     firstShown p table m x        the first row below m in which x shows the pattern, or m
 --     varies masks vs               some of the vectors is odd under one of the masks
@@ -6,7 +7,7 @@
 --     Kept Passes a r               r is a, or a passing state of 64 bits below it
 use mathlib.Core.Path.{_≡_}
 use mathlib.Core.Logic.{_⊎_}
-use mathlib.Core.Bool.{Bool, false}
+use mathlib.Core.Bool.{Bool, true, false}
 use mathlib.Core.Option.{Option·getD}
 use mathlib.Core.List.{List}
 use Prim.Native.Nat.{ℕ, _^_, _<_}
@@ -17,6 +18,11 @@ use Rattle.search.specs.Clauses.{shown}
 use Rattle.search.specs.declared.Pattern.{Pattern}
 use Rattle.search.specs.declared.Found.{Found}
 use Rattle.search.specs.declared.Found.the-variants.{State, Nothing}
+
+abbrev pub lower : Found → Found → Found
+lower Nothing b = b
+lower (State s) Nothing = State s
+lower (State s) (State t) = elim (leb s t) [ true ↦ State s | false ↦ State t ]
 
 abbrev pub reached : Found → ℕ → Bool
 reached Nothing x = false

@@ -1,12 +1,10 @@
 -- The lowest clear state of a space.
 --     foundOf o           the state that was found, or nothing
---     lower a b           the lower of two that were found
 --     lowestClear p table m x vs     the lowest member of the space of x and the vectors vs that is clear in the rows below m; states are words of 64 bits
-use mathlib.Core.Bool.{true, false, _&&_}
+use mathlib.Core.Bool.{_&&_}
 use mathlib.Core.Option.{Option, none, some}
 use mathlib.Core.List.{List}
 use Prim.Native.Nat.{ℕ, _^_}
-use lib.Dec.{leb}
 use Rattle.bounded.specs.Bounded.{leastBelow}
 use Rattle.space.specs.Space.{among}
 use Rattle.search.specs.Clauses.{clear}
@@ -17,11 +15,6 @@ use Rattle.search.specs.declared.Found.the-variants.{State, Nothing}
 abbrev pub foundOf : Option ℕ → Found
 foundOf none = Nothing
 foundOf (some s) = State s
-
-abbrev pub lower : Found → Found → Found
-lower Nothing b = b
-lower (State s) Nothing = State s
-lower (State s) (State t) = elim (leb s t) [ true ↦ State s | false ↦ State t ]
 
 unfoldable pub lowestClear : Pattern → List ℕ → ℕ → ℕ → List ℕ → Found
 lowestClear p table m x vs = foundOf (leastBelow (λ s. among x vs s && clear p table m s) (2 ^ 64))

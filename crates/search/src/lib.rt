@@ -5,8 +5,9 @@ ghost use lib.ListN.{length, take};
 ghost use mathlib.Core.Bool.{true, false, _&&_};
 ghost use Rattle.space.specs.Space.{among, Rising};
 ghost use Rattle.search.specs.Clauses.{clear, row as rowOf, shown as shownOf};
-ghost use Rattle.search.specs.Search.{lower, lowestClear};
-ghost use Rattle.search.specs.Code.{firstShown, Kept, reached as reachedOf, varies as variesOf};
+ghost use Rattle.search.specs.Search.{lowestClear};
+ghost use Rattle.search.specs.Code.{firstShown, Kept, lower, reached as reachedOf, varies as variesOf};
+ghost use Rattle.search.specs.declared.Found.the-variants.{Nothing};
 
 // How many of the last vectors are left to the search of the whole space.
 const LAST_VECTORS: usize = 6;
@@ -69,8 +70,8 @@ fn varies(pattern: Pattern, table: &[u64], row: usize, vectors: &[u64], free: us
     false
 }
 
-// Whether every member shows the pattern in one row, so that none is clear. A short period of the register makes such rows.
-fn hopeless(
+// Whether some row is shown by all members, so that none is clear. A short period of the register makes such rows. Where it says no, nothing is promised.
+fn all_show(
     pattern: Pattern,
     table: &[u64],
     rows: usize,
@@ -155,7 +156,8 @@ fn branch(
     found
 }
 
-// The same of the first members only, in rising order: those with no vector but the first, then those with one vector more, and so on. Where members that are clear are many, one of them is found here, and nothing later is lower.
+// A clear member of the space, or nothing, by its blocks in rising order: those members that add a vector and any before it, from the first vector on. Where clear members are many, an early block has one, and everything later is left at once.
+// Whether it is the lowest is not promised.
 fn rise(
     pattern: Pattern,
     table: &[u64],
@@ -163,14 +165,13 @@ fn rise(
     lowest: u64,
     vectors: [u64; 64],
     free: usize,
-    before: Found,
 ) -> Found
     requires { ⌜ Rising lowest 0 (take free vectors) ⌝ }
     requires { ⌜ rows * pattern .columns ≤ length (now table) ⌝ }
-    ensures { λ r. ⌜ Kept (λ s. (among lowest (take free vectors) s && clear pattern (now (table .entry)) rows s) ≡ true) before r ⌝ }
+    ensures { λ r. ⌜ Kept (λ s. (among lowest (take free vectors) s && clear pattern (now (table .entry)) rows s) ≡ true) Nothing r ⌝ }
 {
     let most = bounded::lesser(free, 64);
-    let mut found = before;
+    let mut found = Found::Nothing;
     let mut vector: usize = 0;
     while vector + LAST_VECTORS < most {
         found = branch(
@@ -187,7 +188,7 @@ fn rise(
     found
 }
 
-// The lower of what was found before and the lowest member of the space that shows the pattern in none of the first rows. The space is its lowest member and the first vectors.
+// The lowest member of the space that shows the pattern in none of the first rows. The space is its lowest member and the first vectors.
 // An inner function: its callers show that the vectors rise, so that the lowest member is the lowest, and that the table has so many rows.
 pub fn lowest_clear(
     pattern: Pattern,
@@ -196,15 +197,14 @@ pub fn lowest_clear(
     lowest: u64,
     vectors: [u64; 64],
     free: usize,
-    before: Found,
 ) -> Found
     requires { ⌜ Rising lowest 0 (take free vectors) ⌝ }
     requires { ⌜ rows * pattern .columns ≤ length (now table) ⌝ }
-    ensures { λ r. ⌜ r ≡ lower before (lowestClear pattern (now (table .entry)) rows lowest (take free vectors)) ⌝ }
+    ensures { λ r. ⌜ r ≡ lowestClear pattern (now (table .entry)) rows lowest (take free vectors) ⌝ }
 {
-    if hopeless(pattern, table, rows, lowest, &vectors, free) {
-        return before;
+    if all_show(pattern, table, rows, lowest, &vectors, free) {
+        return Found::Nothing;
     }
-    let found = rise(pattern, table, rows, lowest, vectors, free, before);
+    let found = rise(pattern, table, rows, lowest, vectors, free);
     branch(pattern, table, rows, lowest, vectors, free, found)
 }

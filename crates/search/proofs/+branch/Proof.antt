@@ -36,6 +36,18 @@ branch-below t =
     (falls 1 branch-kinds.ps _<_ μ-branch t)
     branch.Pre
 
+abbrev branch-claims : ℕ → branch-lts.Claims
+branch-claims t = (
+  reached-reads.Asked,
+  reached-reads.Learnt,
+  first-shown-reads.Asked,
+  first-shown-reads.Learnt,
+  take-out-reads.Asked,
+  take-out-reads.Learnt,
+  branch-below t,
+  branch.Post,
+)
+
 abbrev branch-Inv-loop : branch-lts.InvT-loop
 branch-Inv-loop pattern table rows lowest free row columns first rest₀ left₀ found₀ position₀ rest left found position =
     (length rest ≡ 64) × Branched pattern table rows lowest (take left₀ rest₀) found₀ row (take left rest) found position
@@ -44,56 +56,20 @@ abbrev branch-μ-loop : branch-lts.MeasureT-loop
 branch-μ-loop pattern table rows lowest free row columns first rest₀ left₀ found₀ position₀ rest left found position =
     columns - position
 
-branch-reached-requires : (t : ℕ) → branch-lts.Need-reached-requires (
-  reached-reads.Asked,
-  reached-reads.Learnt,
-  first-shown-reads.Asked,
-  first-shown-reads.Learnt,
-  take-out-reads.Asked,
-  take-out-reads.Learnt,
-  branch-below t,
-  branch.Post,
-) (branch-at t) branch.Post branch-Inv-loop branch-μ-loop
+branch-reached-requires : (t : ℕ) → branch-lts.Need-reached-requires (branch-claims t) (branch-at t) branch.Post branch-Inv-loop branch-μ-loop
 branch-reached-requires t c κs = search needs
 
-branch-returns : (t : ℕ) → branch-lts.Need-returns (
-  reached-reads.Asked,
-  reached-reads.Learnt,
-  first-shown-reads.Asked,
-  first-shown-reads.Learnt,
-  take-out-reads.Asked,
-  take-out-reads.Learnt,
-  branch-below t,
-  branch.Post,
-) (branch-at t) branch.Post branch-Inv-loop branch-μ-loop
+branch-returns : (t : ℕ) → branch-lts.Need-returns (branch-claims t) (branch-at t) branch.Post branch-Inv-loop branch-μ-loop
 branch-returns t c =
     let s = c .before .before .before in
     let a = s .args in
     finds-lowest-clear (a .pattern) (a .table .now) (a .rows) (a .lowest) (take (a .free) (a .vectors)) (a .before) (a .before)
     (finds-pruned (a .pattern) (a .table .now) (a .rows) (a .lowest) (take (a .free) (a .vectors)) (a .before) (s .pre .1 .0) (sym (c .before .reached .ensures) ∙ c .if1 .taken))
 
-branch-first-shown-requires : (t : ℕ) → branch-lts.Need-first-shown-requires (
-  reached-reads.Asked,
-  reached-reads.Learnt,
-  first-shown-reads.Asked,
-  first-shown-reads.Learnt,
-  take-out-reads.Asked,
-  take-out-reads.Learnt,
-  branch-below t,
-  branch.Post,
-) (branch-at t) branch.Post branch-Inv-loop branch-μ-loop
+branch-first-shown-requires : (t : ℕ) → branch-lts.Need-first-shown-requires (branch-claims t) (branch-at t) branch.Post branch-Inv-loop branch-μ-loop
 branch-first-shown-requires t c κs = search needs
 
-branch-returns-2 : (t : ℕ) → branch-lts.Need-returns-2 (
-  reached-reads.Asked,
-  reached-reads.Learnt,
-  first-shown-reads.Asked,
-  first-shown-reads.Learnt,
-  take-out-reads.Asked,
-  take-out-reads.Learnt,
-  branch-below t,
-  branch.Post,
-) (branch-at t) branch.Post branch-Inv-loop branch-μ-loop
+branch-returns-2 : (t : ℕ) → branch-lts.Need-returns-2 (branch-claims t) (branch-at t) branch.Post branch-Inv-loop branch-μ-loop
 branch-returns-2 t c =
     let s = c .before .before .before .before .before in
     let a = s .args in
@@ -102,16 +78,7 @@ branch-returns-2 t c =
     (sym (c .before .before .before .reached .ensures) ∙ c .before .before .if1 .left)
     (first-none (a .pattern) (a .table .now) (a .rows) (a .lowest) (c .before .first-shown .result) (c .before .first-shown .ensures) (c .if2 .taken)))
 
-branch-mul-first : (t : ℕ) → branch-lts.Need-mul-first (
-  reached-reads.Asked,
-  reached-reads.Learnt,
-  first-shown-reads.Asked,
-  first-shown-reads.Learnt,
-  take-out-reads.Asked,
-  take-out-reads.Learnt,
-  branch-below t,
-  branch.Post,
-) (branch-at t) branch.Post branch-Inv-loop branch-μ-loop
+branch-mul-first : (t : ℕ) → branch-lts.Need-mul-first (branch-claims t) (branch-at t) branch.Post branch-Inv-loop branch-μ-loop
 branch-mul-first t c =
     let s = c .before .before .before .before .before in
     let a = s .args in
@@ -120,43 +87,16 @@ branch-mul-first t c =
     let g = row-fits (r .result) (a .rows) (a .pattern .columns) (length (a .table .now)) (f .0) (s .pre .1 .1) in
     search needs
 
-branch-loop-holds : (t : ℕ) → branch-lts.Need-loop-holds (
-  reached-reads.Asked,
-  reached-reads.Learnt,
-  first-shown-reads.Asked,
-  first-shown-reads.Learnt,
-  take-out-reads.Asked,
-  take-out-reads.Learnt,
-  branch-below t,
-  branch.Post,
-) (branch-at t) branch.Post branch-Inv-loop branch-μ-loop
+branch-loop-holds : (t : ℕ) → branch-lts.Need-loop-holds (branch-claims t) (branch-at t) branch.Post branch-Inv-loop branch-μ-loop
 branch-loop-holds t c =
     let s = c .before .before .before .before .before in
     let a = s .args in
     (search needs, branched-start (a .pattern) (a .table .now) (a .rows) (a .lowest) (take (a .free) (a .vectors)) (a .before) (c .before .first-shown .result) (s .pre .1 .0))
 
-branch-slice-aggregate-take-out : (t : ℕ) → branch-lts.Need-slice-aggregate-take-out (
-  reached-reads.Asked,
-  reached-reads.Learnt,
-  first-shown-reads.Asked,
-  first-shown-reads.Learnt,
-  take-out-reads.Asked,
-  take-out-reads.Learnt,
-  branch-below t,
-  branch.Post,
-) (branch-at t) branch.Post branch-Inv-loop branch-μ-loop
+branch-slice-aggregate-take-out : (t : ℕ) → branch-lts.Need-slice-aggregate-take-out (branch-claims t) (branch-at t) branch.Post branch-Inv-loop branch-μ-loop
 branch-slice-aggregate-take-out t c = search needs
 
-branch-add-take-out : (t : ℕ) → branch-lts.Need-add-take-out (
-  reached-reads.Asked,
-  reached-reads.Learnt,
-  first-shown-reads.Asked,
-  first-shown-reads.Learnt,
-  take-out-reads.Asked,
-  take-out-reads.Learnt,
-  branch-below t,
-  branch.Post,
-) (branch-at t) branch.Post branch-Inv-loop branch-μ-loop
+branch-add-take-out : (t : ℕ) → branch-lts.Need-add-take-out (branch-claims t) (branch-at t) branch.Post branch-Inv-loop branch-μ-loop
 branch-add-take-out t c =
     let i = c .before .before .before in
     let s = i .before .before .before .before .before in
@@ -166,16 +106,7 @@ branch-add-take-out t c =
     let g = row-fits (r .result) (a .rows) (a .pattern .columns) (length (a .table .now)) (f .0) (s .pre .1 .1) in
     search needs
 
-branch-mul-take-out : (t : ℕ) → branch-lts.Need-mul-take-out (
-  reached-reads.Asked,
-  reached-reads.Learnt,
-  first-shown-reads.Asked,
-  first-shown-reads.Learnt,
-  take-out-reads.Asked,
-  take-out-reads.Learnt,
-  branch-below t,
-  branch.Post,
-) (branch-at t) branch.Post branch-Inv-loop branch-μ-loop
+branch-mul-take-out : (t : ℕ) → branch-lts.Need-mul-take-out (branch-claims t) (branch-at t) branch.Post branch-Inv-loop branch-μ-loop
 branch-mul-take-out t c =
     let i = c .before .before .before in
     let s = i .before .before .before .before .before in
@@ -185,17 +116,7 @@ branch-mul-take-out t c =
     let g = row-fits (r .result) (a .rows) (a .pattern .columns) (length (a .table .now)) (f .0) (s .pre .1 .1) in
     search needs
 
-branch-shared-slice-read-take-out :
-    (t : ℕ) → branch-lts.Need-shared-slice-read-take-out (
-      reached-reads.Asked,
-      reached-reads.Learnt,
-      first-shown-reads.Asked,
-      first-shown-reads.Learnt,
-      take-out-reads.Asked,
-      take-out-reads.Learnt,
-      branch-below t,
-      branch.Post,
-    ) (branch-at t) branch.Post branch-Inv-loop branch-μ-loop
+branch-shared-slice-read-take-out : (t : ℕ) → branch-lts.Need-shared-slice-read-take-out (branch-claims t) (branch-at t) branch.Post branch-Inv-loop branch-μ-loop
 branch-shared-slice-read-take-out t c =
     let i = c .before .before .before .before in
     let s = i .before .before .before .before .before in
@@ -205,28 +126,10 @@ branch-shared-slice-read-take-out t c =
     let g = row-fits (r .result) (a .rows) (a .pattern .columns) (length (a .table .now)) (f .0) (s .pre .1 .1) in
     search needs
 
-branch-take-out-requires : (t : ℕ) → branch-lts.Need-take-out-requires (
-  reached-reads.Asked,
-  reached-reads.Learnt,
-  first-shown-reads.Asked,
-  first-shown-reads.Learnt,
-  take-out-reads.Asked,
-  take-out-reads.Learnt,
-  branch-below t,
-  branch.Post,
-) (branch-at t) branch.Post branch-Inv-loop branch-μ-loop
+branch-take-out-requires : (t : ℕ) → branch-lts.Need-take-out-requires (branch-claims t) (branch-at t) branch.Post branch-Inv-loop branch-μ-loop
 branch-take-out-requires t c κs = search needs
 
-branch-branch-requires : (t : ℕ) → branch-lts.Need-branch-requires (
-  reached-reads.Asked,
-  reached-reads.Learnt,
-  first-shown-reads.Asked,
-  first-shown-reads.Learnt,
-  take-out-reads.Asked,
-  take-out-reads.Learnt,
-  branch-below t,
-  branch.Post,
-) (branch-at t) branch.Post branch-Inv-loop branch-μ-loop
+branch-branch-requires : (t : ℕ) → branch-lts.Need-branch-requires (branch-claims t) (branch-at t) branch.Post branch-Inv-loop branch-μ-loop
 branch-branch-requires t c κs =
     let l = c .before .before .before .before .before .before .before .before .loop in
     let i = c .before .before .before .before .before .before .before .before .before in
@@ -243,40 +146,13 @@ branch-branch-requires t c κs =
       (rw (w, e) (child-rising (a .pattern) (a .table .now) (a .rows) (a .lowest) (take (a .free) (a .vectors)) (a .before) (r .result) (take (l .left) (l .rest)) (l .found) (l .found) (l .position) lt n (l .inv .1)), s .pre .1 .1),
     )
 
-branch-add-position : (t : ℕ) → branch-lts.Need-add-position (
-  reached-reads.Asked,
-  reached-reads.Learnt,
-  first-shown-reads.Asked,
-  first-shown-reads.Learnt,
-  take-out-reads.Asked,
-  take-out-reads.Learnt,
-  branch-below t,
-  branch.Post,
-) (branch-at t) branch.Post branch-Inv-loop branch-μ-loop
+branch-add-position : (t : ℕ) → branch-lts.Need-add-position (branch-claims t) (branch-at t) branch.Post branch-Inv-loop branch-μ-loop
 branch-add-position t c = search needs
 
-branch-loop-less : (t : ℕ) → branch-lts.Need-loop-less (
-  reached-reads.Asked,
-  reached-reads.Learnt,
-  first-shown-reads.Asked,
-  first-shown-reads.Learnt,
-  take-out-reads.Asked,
-  take-out-reads.Learnt,
-  branch-below t,
-  branch.Post,
-) (branch-at t) branch.Post branch-Inv-loop branch-μ-loop
+branch-loop-less : (t : ℕ) → branch-lts.Need-loop-less (branch-claims t) (branch-at t) branch.Post branch-Inv-loop branch-μ-loop
 branch-loop-less t c = search needs
 
-branch-loop-again : (t : ℕ) → branch-lts.Need-loop-again (
-  reached-reads.Asked,
-  reached-reads.Learnt,
-  first-shown-reads.Asked,
-  first-shown-reads.Learnt,
-  take-out-reads.Asked,
-  take-out-reads.Learnt,
-  branch-below t,
-  branch.Post,
-) (branch-at t) branch.Post branch-Inv-loop branch-μ-loop
+branch-loop-again : (t : ℕ) → branch-lts.Need-loop-again (branch-claims t) (branch-at t) branch.Post branch-Inv-loop branch-μ-loop
 branch-loop-again t c =
     let l = c .before .before .before .before .before .before .before .loop in
     let i = c .before .before .before .before .before .before .before .before in
@@ -297,16 +173,7 @@ branch-loop-again t c =
           (c .if3 .came)),
     )
 
-branch-returns-3 : (t : ℕ) → branch-lts.Need-returns-3 (
-  reached-reads.Asked,
-  reached-reads.Learnt,
-  first-shown-reads.Asked,
-  first-shown-reads.Learnt,
-  take-out-reads.Asked,
-  take-out-reads.Learnt,
-  branch-below t,
-  branch.Post,
-) (branch-at t) branch.Post branch-Inv-loop branch-μ-loop
+branch-returns-3 : (t : ℕ) → branch-lts.Need-returns-3 (branch-claims t) (branch-at t) branch.Post branch-Inv-loop branch-μ-loop
 branch-returns-3 t c =
     let l = c .before .loop in
     let i = c .before .before in
@@ -318,16 +185,8 @@ branch-returns-3 t c =
     (branched-end (a .pattern) (a .table .now) (a .rows) (a .lowest) (take (a .free) (a .vectors)) (a .before) (t .result) (take (l .left) (l .rest)) (l .found) (l .position) (omega arith) (f .0) (s .pre .1 .1) (f .1) (l .inv .1))
 
 pub +branch-spec : {M : Type 1} → statement M
-+branch-spec = close μ-branch λ t. branch-lts.spec (
-  reached-reads.Asked,
-  reached-reads.Learnt,
-  first-shown-reads.Asked,
-  first-shown-reads.Learnt,
-  take-out-reads.Asked,
-  take-out-reads.Learnt,
-  branch-below t,
-  branch.Post,
-)
++branch-spec = close μ-branch λ t. branch-lts.spec
+    (branch-claims t)
     (branch-at t)
     branch.Post
     branch-Inv-loop

@@ -7,6 +7,7 @@ use lib.ListN.{length, take, length-take}
 use lib.Seq.{getD-take, take-take}
 use borrow.Author.Needs.{needs}
 use Rattle.search.specs.Code.{Kept}
+use Rattle.search.specs.declared.Found.the-variants.{Nothing}
 use Rattle.space.proofs.Blocks.{block-rising}
 use Rattle.search.proofs.Rising.{Clears, kept-block}
 use Rattle.search.proofs.rise.Statement.{statement}
@@ -14,7 +15,7 @@ use Rattle.search.proofs.rise.Tie as tie
 
 abbrev Inv-loop : tie.InvT-loop
 Inv-loop pattern table rows lowest free vectors most found₀ vector₀ found vector =
-    (vector ≤ 64) × Kept (Clears pattern table rows lowest (take free vectors)) found₀ found
+    (vector ≤ 64) × Kept (Clears pattern table rows lowest (take free vectors)) Nothing found
 
 abbrev μ-loop : tie.MeasureT-loop
 μ-loop pattern table rows lowest free vectors most found₀ vector₀ found vector = most - vector
@@ -60,7 +61,7 @@ loop-again c =
     let m : l .vector < a .free = omega arith in
     let h : l .vector < length (take (a .free) (a .t5)) = omega (arith, length-take (a .free) (a .t5)) in (
       omega arith,
-      kept-block (a .pattern) (a .table .now) (a .rows) (a .lowest) (take (a .free) (a .t5)) (l .vector) (a .before) (l .found) (c .branch .result) h (l .inv .1)
+      kept-block (a .pattern) (a .table .now) (a .rows) (a .lowest) (take (a .free) (a .t5)) (l .vector) Nothing (l .found) (c .branch .result) h (l .inv .1)
           (c .branch .ensures ∙ rw (getD-take (a .free) (a .t5) (l .vector) 0 m, take-take (l .vector) (a .free) (a .t5) (omega arith))),
     )
 

@@ -1,4 +1,4 @@
--- `search::hopeless` meets its contract. Assumes nothing.
+-- `search::all_show` meets its contract. Assumes nothing.
 use mathlib.Core.Path.{refl, sym, _∙_}
 use mathlib.Core.Bool.{false}
 use Prim.Native.Nat.{_-_, _≤_}
@@ -9,8 +9,8 @@ use borrow.Author.Tests.{not-true}
 use Rattle.bounded.proofs.Tests.{clash}
 use Rattle.search.proofs.Reading.{row-fits}
 use Rattle.search.proofs.Varying.{all-show}
-use Rattle.search.proofs.hopeless.Statement.{statement}
-use Rattle.search.proofs.hopeless.Tie as tie
+use Rattle.search.proofs.all_show.Statement.{statement}
+use Rattle.search.proofs.all_show.Tie as tie
 
 abbrev Inv-loop : tie.InvT-loop
 Inv-loop pattern table rows lowest vectors free place₀ place = place ≤ rows
@@ -52,8 +52,8 @@ loop-again c = search needs
 returns-2 : tie.Need-returns-2 Inv-loop μ-loop
 returns-2 c = λ e. absurd (clash false e refl)
 
-pub hopeless-spec : {M : Type 1} → statement M
-hopeless-spec =
+pub all-show-spec : {M : Type 1} → statement M
+all-show-spec =
     tie.close
     (tie.spec
     Inv-loop
