@@ -4,9 +4,9 @@
 --     eq-or-not      two numbers are one, or not
 --     fails          a test that does not hold is false
 --     both, and-yes     a conjunction is true, and its parts are
---     and-true, and-assoc     nothing more is asked; what is asked in turn
 --     alike          two tests, each true where the other is, are one
 --     neither        a disjunction is false, and its parts are
+--     either, or-right     a disjunction is true, and one of its parts is
 --     within-yes, below-within     what "low to high" says
 -- Assumes nothing.
 use mathlib.Core.Path.{_≡_, refl, sym}
@@ -46,14 +46,6 @@ both false b e = (e, cc)
 pub and-yes : (a b : Bool) → a ≡ true → b ≡ true → a && b ≡ true
 and-yes a b p q = rw (p, q)
 
-pub and-true : (b : Bool) → (b && true) ≡ b
-and-true true = refl
-and-true false = refl
-
-pub and-assoc : (a b c : Bool) → (a && (b && c)) ≡ ((a && b) && c)
-and-assoc true b c = refl
-and-assoc false b c = refl
-
 pub alike : (a b : Bool) → (a ≡ true → b ≡ true) → (b ≡ true → a ≡ true) → a ≡ b
 alike true b f g = sym (f refl)
 alike false true f g = g refl
@@ -62,6 +54,14 @@ alike false false f g = refl
 pub neither : (a b : Bool) → a || b ≡ false → (a ≡ false) × (b ≡ false)
 neither true b e = (e, cc)
 neither false b e = (refl, e)
+
+pub either : (a b : Bool) → a || b ≡ true → (a ≡ true) ⊎ (b ≡ true)
+either true b e = inl refl
+either false b e = inr e
+
+pub or-right : (a b : Bool) → b ≡ true → a || b ≡ true
+or-right true b e = refl
+or-right false b e = e
 
 pub within-yes : (low high n : ℕ) → within low high n ≡ true → (low ≤ n) × (n ≤ high)
 unfolding within

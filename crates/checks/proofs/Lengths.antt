@@ -1,16 +1,17 @@
 -- Cause 3, as the code tests it, one test after the other.
 --     cubes-depth, cubes-slices, cubes-rest     a set that comes as cubes
 --     list-slices, list-seeds                   a seed list
---     set-within, list-within                   what is not refused by it: 1 to 2,048 slices, at most 2,048 seeds
+--     window-within, set-within, list-within     what is not refused by it: 1 to limit slices, 1 to 2,048 slices, at most 2,048 seeds
+--     cubes-lengths                             what is not refused as cubes is not refused as a set
 -- Assumes nothing.
 use mathlib.Core.Path.{_≡_}
-use mathlib.Core.Bool.{true, false, not}
+use mathlib.Core.Bool.{true, false, not, _||_}
 use Prim.Native.Nat.{ℕ, _%_, _≤_}
 use lib.Dec.{ltb, eqb}
 use borrow.Author.Tests.{ltb-false, not-false}
 use Rattle.bounded.specs.Bounded.{within}
 use Rattle.bounded.proofs.Tests.{neither, within-yes}
-use Rattle.checks.specs.Lengths.{badSet, badCubes, badList}
+use Rattle.checks.specs.Lengths.{badWindow, badSet, badCubes, badList}
 
 module _ (depth n : ℕ) where
   pub cubes-depth : within 1 256 depth ≡ false → badCubes depth n ≡ true
@@ -21,9 +22,17 @@ module _ (depth n : ℕ) where
   unfolding badCubes
   cubes-slices w b = rw (w, b)
 
+  pub cubes-lengths : badCubes depth n ≡ false → badSet n ≡ false
+  unfolding badCubes
+  cubes-lengths b = neither (badSet n) (not (eqb (n % depth) 0)) (neither (not (within 1 256 depth)) (badSet n || not (eqb (n % depth) 0)) b .1) .0
+
   pub cubes-rest : within 1 256 depth ≡ true → badSet n ≡ false → badCubes depth n ≡ not (eqb (n % depth) 0)
   unfolding badCubes
   cubes-rest w b = rw (w, b)
+
+pub window-within : (limit n : ℕ) → badWindow limit n ≡ false → (1 ≤ n) × (n ≤ limit)
+unfolding badWindow
+window-within limit n b = within-yes 1 limit n (not-false (within 1 limit n) b)
 
 pub set-within : (n : ℕ) → badSet n ≡ false → (1 ≤ n) × (n ≤ 2048)
 unfolding badSet

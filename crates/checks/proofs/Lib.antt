@@ -1,3 +1,5 @@
--- The laws of lengths and of the order of causes.
+-- The laws of lengths, of the order of causes, and of slices with their stop slice.
+
 pub mod Lengths
 pub mod Order
+pub mod Stopped

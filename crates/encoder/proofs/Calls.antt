@@ -18,14 +18,14 @@ use Rattle.register.specs.Machine.{Machine, machine}
 use Rattle.register.proofs.Steps.{step-below}
 use Rattle.slices.specs.declared.TestSlice.{TestSlice}
 use Rattle.slices.specs.Slices.{paired}
-use Rattle.slices.proofs.Paired.{paired-length}
-use Rattle.slices.proofs.Causes.{slices-equal}
+use Rattle.slices.proofs.Formed.{slices-length}
 use Rattle.checks.specs.Lengths.{badSet}
 use Rattle.checks.specs.Order.{judged}
-use Rattle.checks.specs.Calls.{stoppedFaults, setFaults, listFaults}
+use Rattle.checks.specs.Calls.{setFaults, listFaults}
 use Rattle.checks.specs.declared.Verdict.{Verdict}
 use Rattle.checks.proofs.Lengths.{set-within, list-seeds}
-use Rattle.checks.proofs.Order.{NoFault, well-formed, formed-well}
+use Rattle.checks.proofs.Order.{well-formed}
+use Rattle.checks.proofs.Stopped.{StoppedFormed, set-formed}
 use Rattle.cutting.proofs.Parts.{covering-length, cuts-count}
 use Rattle.covering.specs.Rules.{Rules, rules}
 use Rattle.covering.specs.Windows.{CoveredBy, ok}
@@ -50,31 +50,25 @@ module _ (g : Settings) (masks : List ℕ) (stop : TestSlice) (specified bits : 
   abbrev verdict-of : Verdict
   verdict-of = judged (setFaults g masks stop specified bits)
 
-  faultless : verdict-of ≡ verdict.WellFormed → NoFault (stoppedFaults (badSet (length specified)) g masks stop specified bits)
-  unfolding setFaults
-  faultless w = formed-well (setFaults g masks stop specified bits) w
+  formed : verdict-of ≡ verdict.WellFormed → StoppedFormed (badSet (length specified)) g masks stop specified bits
+  formed w = set-formed g masks stop specified bits w
 
   set-length : verdict-of ≡ verdict.WellFormed → length set ≡ length specified
-  unfolding stoppedFaults
-  set-length w = paired-length specified bits (slices-equal (length masks) specified bits (faultless w .slices))
-
-  few-slices : verdict-of ≡ verdict.WellFormed → length specified ≤ 2048
-  unfolding stoppedFaults
-  few-slices w = set-within (length specified) (faultless w .lengths) .1
+  set-length w = slices-length (length masks) specified bits (formed w .slices)
 
   few-seeds : verdict-of ≡ verdict.WellFormed → (seeds : List ℕ) → Shortest M R set seeds → length seeds ≤ 2048
   few-seeds w seeds l =
-      omega (arith, cuts-count (ok M R set) (length set) (set-bounds M R set) (covering-cuts M R set (l .covers)), covering-length (CoveredBy M R set) (l .covers), set-length w, few-slices w)
+      omega (arith, cuts-count (ok M R set) (length set) (set-bounds M R set) (covering-cuts M R set (l .covers)), covering-length (CoveredBy M R set) (l .covers), set-length w, set-within (length specified) (formed w .lengths) .1)
 
   pub list-formed : verdict-of ≡ verdict.WellFormed → (seeds : List ℕ) → Shortest M R set seeds
       → judged (listFaults g masks stop (length specified) (length seeds)) ≡ verdict.WellFormed
-  unfolding stoppedFaults listFaults
+  unfolding listFaults
   list-formed w seeds l = well-formed (listFaults g masks stop (length specified) (length seeds)) (record {
-    register = faultless w .register;
-    chains = faultless w .chains;
-    lengths = list-seeds (length specified) (length seeds) (faultless w .lengths) ∙ le-ltb 2048 (length seeds) (few-seeds w seeds l);
+    register = formed w .register;
+    chains = formed w .chains;
+    lengths = list-seeds (length specified) (length seeds) (formed w .lengths) ∙ le-ltb 2048 (length seeds) (few-seeds w seeds l);
     slices = refl;
-    stop = faultless w .stop;
+    stop = formed w .stop;
   })
 
   expands-back : verdict-of ≡ verdict.WellFormed → (seeds out : List ℕ) → Shortest M R set seeds

@@ -1,14 +1,13 @@
 -- The whole call for cubes, with the stop slice of the steps.
---     steps-refused, steps-stop     what the call for the stop slice says of the steps
+--     stop-set                      with the stop slice of the steps, they are a set
 --     cubes-unstopped, cubes-stopped     the encoding of well-formed cubes, by the steps
 --     cubes-refused, cubes-well     the outcome of the call, by the checks
 --     cubes-means, cubes-outcome    it means what it says
 -- Assumes nothing.
-use mathlib.Core.Path.{_≡_, refl, sym, ap, _∙_}
-use mathlib.Core.Option.{Option, none, some}
+use mathlib.Core.Path.{_≡_, sym, ap, _∙_}
+use mathlib.Core.Option.{none, some}
 use mathlib.Core.List.{List}
 use Prim.Native.Nat.{ℕ}
-use native.Mathlib.Omega.{arith}
 use lib.ListN.{length}
 use Rattle.causes.specs.declared.Cause.{Cause}
 use Rattle.register.specs.declared.Settings.{Settings}
@@ -19,9 +18,9 @@ use Rattle.checks.specs.Order.{judged}
 use Rattle.checks.specs.Calls.{setFaults, cubesFaults}
 use Rattle.checks.specs.declared.Verdict.{Verdict}
 use Rattle.stop.specs.Steps.{stopFor}
-use Rattle.stop.specs.Entry.{stopOr6, stopOf}
-use Rattle.stop.specs.Meaning.{StopMeaning, SixMeaning}
-use Rattle.stop.proofs.Calls.{call-formed, formed-means, refused-means}
+use Rattle.stop.specs.Meaning.{StopMeaning}
+use Rattle.stop.proofs.Meaning.{stop-means, six-means}
+use Rattle.stop.proofs.Calls.{some-slice}
 use Rattle.covering.specs.Rules.{rules}
 use Rattle.encoder.specs.Encoding.{encoding, encodeSet, withStop, cubesEncoding, encodeCubes}
 use Rattle.encoder.specs.Meaning.{StoppedMeaning, CubesMeaning}
@@ -32,7 +31,6 @@ use Rattle.encoder.proofs.Formed.{cubes-formed, cubes-stop, cubes-set}
 use Rattle.encoder.proofs.Calls.{set-well, set-means}
 use Rattle.causes.specs.declared.Cause.the-variants as cause
 use Rattle.checks.specs.declared.Verdict.the-variants as verdict
-use Rattle.stop.specs.declared.Formed.the-variants as formed
 
 module _ (g : Settings) (masks ps bs : List ℕ) where
   abbrev set : List TestSlice
@@ -42,36 +40,12 @@ module _ (g : Settings) (masks ps bs : List ℕ) where
   c = length masks
 
   module _ (f : CubesFormed g masks ps bs) where
-    by-steps : stopOf c ps bs ≡ stopOr6 (stopFor c set)
-    by-steps = call-formed c ps bs (cubes-stop g masks ps bs f)
-
-    refused-only : (o : Option TestSlice) (k : Cause) → stopOr6 o ≡ formed.Refused k → (o ≡ none) × (k ≡ cause.SlicesIn)
-    unfolding stopOr6
-    refused-only none k e = (refl, let q : k ≡ cause.SlicesIn = cc in q)
-    refused-only (some s) k e = absurd (let z : _≡_ {A = ℕ} 0 1 = cc in omega arith)
-
-    stop-only : (o : Option TestSlice) (stop : TestSlice) → stopOr6 o ≡ formed.Stop stop → o ≡ some stop
-    unfolding stopOr6
-    stop-only none stop e = absurd (let z : _≡_ {A = ℕ} 0 1 = cc in omega arith)
-    stop-only (some s) stop e = ap some (let q : s ≡ stop = cc in q)
-
-    pub steps-refused : (k : Cause) → stopOf c ps bs ≡ formed.Refused k → (stopFor c set ≡ none) × (k ≡ cause.SlicesIn)
-    steps-refused k e = refused-only (stopFor c set) k (sym by-steps ∙ e)
-
-    pub steps-stop : (stop : TestSlice) → stopOf c ps bs ≡ formed.Stop stop → stopFor c set ≡ some stop
-    steps-stop stop e = stop-only (stopFor c set) stop (sym by-steps ∙ e)
-
     -- the stop slice of the steps makes them a set
     stop-meaning : (stop : TestSlice) → stopFor c set ≡ some stop → StopMeaning c set stop
-    unfolding stopOr6
-    stop-meaning stop e = formed-means c ps bs stop (by-steps ∙ rw e)
+    stop-meaning stop e = stop-means c set stop (some-slice c ps bs (cubes-stop g masks ps bs f)) e
 
     pub stop-set : (stop : TestSlice) → stopFor c set ≡ some stop → judged (setFaults g masks stop ps bs) ≡ verdict.WellFormed
     stop-set stop e = cubes-set g masks ps bs f stop (stop-meaning stop e .formed)
-
-    six-meaning : stopFor c set ≡ none → SixMeaning c set
-    unfolding stopOr6
-    six-meaning e = refused-means c ps bs cause.SlicesIn (cubes-stop g masks ps bs f) (by-steps ∙ rw e)
 
   module _ (out : List ℕ) where
     pub cubes-unstopped : stopFor c set ≡ none → cubesEncoding g masks ps bs out ≡ record { answer = Refused cause.SlicesIn; buffer = out }
@@ -109,7 +83,7 @@ module _ (g : Settings) (masks ps bs : List ℕ) where
       pub cubes-means : CubesMeaning g masks depth ps bs out (encodeCubes g masks depth ps bs out)
       cubes-means = record {
         refused = cubes-refused;
-        unstopped = λ w e. (cubes-well w ∙ cubes-unstopped e, six-meaning (cubes-formed g masks ps bs depth w) e);
+        unstopped = λ w e. (cubes-well w ∙ cubes-unstopped e, six-means c set e);
         stopped = stopped;
       }
 

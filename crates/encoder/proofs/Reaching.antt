@@ -4,9 +4,9 @@
 --     Reaches         what the search for the longest window says of the set
 --     reaches         it says so
 -- Assumes nothing.
-use mathlib.Core.Path.{_≡_, refl, sym, ap, ap₂, _∙_}
+use mathlib.Core.Path.{_≡_, sym, ap, ap₂, _∙_}
 use mathlib.Core.Logic.{⊎-elim}
-use mathlib.Core.Bool.{Bool, true, false, _&&_, _||_}
+use mathlib.Core.Bool.{Bool, true, false, _&&_, and-false, or-true, or-false}
 use mathlib.Core.Option.{Option, none, some, Option·getD}
 use mathlib.Core.List.{List}
 use Prim.Native.Nat.{ℕ, suc, _+_, _-_, _≤_, _<_}
@@ -43,18 +43,6 @@ module _ (M : Machine) (R : Rules) (set : List TestSlice) (a : ℕ) where
 
   pub part-length : length w ≡ e - a
   part-length = omega (arith, length-take (e - a) (drop a set), length-drop a set, far-le R n a .0)
-
-  or-true : (b : Bool) → (b || true) ≡ true
-  or-true true = refl
-  or-true false = refl
-
-  or-false : (b : Bool) → (b || false) ≡ b
-  or-false true = refl
-  or-false false = refl
-
-  and-false : (b : Bool) → (b && false) ≡ false
-  and-false true = refl
-  and-false false = refl
 
   -- a window shorter than the part does not end the set
   closes-same : (k : ℕ) → 0 < k → k ≤ e - a → closesAt last w k ≡ closes R n (a + k)

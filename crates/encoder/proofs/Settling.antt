@@ -9,10 +9,11 @@ use Prim.Native.Nat.{ℕ, _≤_, _<_}
 use native.Mathlib.Omega.{arith}
 use lib.ListN.{length, take, drop, length-append}
 use lib.Seq.{length-take-le, take-at}
-use borrow.Author.Tests.{lt-ltb, le-ltb, le-leb, lt-leb, eq-eqb, ne-eqb}
+use borrow.Author.Tests.{lt-ltb, le-ltb, eq-eqb, ne-eqb}
 use Rattle.bounded.proofs.Tests.{eq-or-not}
 use Rattle.causes.specs.declared.Written.the-variants.{Count}
-use Rattle.causes.specs.Outcome.{Outcome, refuse, fill}
+use Rattle.causes.specs.Outcome.{refuse, fill}
+use Rattle.causes.proofs.Outcome.{fill-whole, fill-short}
 use Rattle.register.specs.declared.Settings.{Settings}
 use Rattle.register.specs.Machine.{Machine, machine}
 use Rattle.slices.specs.declared.TestSlice.{TestSlice}
@@ -40,17 +41,10 @@ module _ (n : ℕ) (r : Gathered) (seeds out : List ℕ) where
     count = length-take-le (r .count) seeds held
 
     pub settled-short : length out < r .count → settled n r seeds out ≡ refuse (cause.NoSpace (r .count)) out
-    unfolding fill
-    settled-short h =
-        let k : length out < length (take (r .count) seeds) = rw count h in
-        through come ∙ rw (lt-leb (length (take (r .count) seeds)) (length out) k, fill) (ap (λ (m : ℕ). refuse (cause.NoSpace m) out) count)
+    settled-short h = through come ∙ fill-short (take (r .count) seeds) out (r .count) count h
 
     pub settled-whole : r .count ≤ length out → settled n r seeds out ≡ record { answer = Count (r .count); buffer = take (r .count) seeds ++ drop (r .count) out }
-    unfolding fill
-    settled-whole h =
-        let k : length (take (r .count) seeds) ≤ length out = rw count h in
-        let whole : ℕ → Outcome = λ m. record { answer = Count m; buffer = take (r .count) seeds ++ drop m out } in
-        through come ∙ rw (le-leb (length (take (r .count) seeds)) (length out) k, fill) (ap whole count)
+    settled-whole h = through come ∙ fill-whole (take (r .count) seeds) out (r .count) count h
 
 module _ (g : Settings) (masks : List ℕ) (stop : TestSlice) (set : List TestSlice) where
   abbrev M : Machine

@@ -14,8 +14,7 @@ use Rattle.register.specs.Machine.{Machine, machine}
 use Rattle.slices.specs.declared.TestSlice.{TestSlice}
 use Rattle.slices.specs.Slices.{paired, badSlices}
 use Rattle.slices.proofs.Causes.{slices-equal}
-use Rattle.slices.proofs.Paired.{paired-length}
-use Rattle.slices.proofs.Formed.{paired-take, paired-drop, slices-take, slices-drop}
+use Rattle.slices.proofs.Formed.{paired-take, paired-drop, slices-length, slices-take, slices-drop}
 use Rattle.covering.specs.Rules.{Rules, rules}
 use Rattle.covering.specs.Windows.{part, far, closes}
 use Rattle.covering.proofs.Places.{far-rules}
@@ -33,8 +32,8 @@ module _ (g : Settings) (masks : List ℕ) (stop : TestSlice) (ps bs : List ℕ)
   abbrev set : List TestSlice
   set = paired ps bs
 
-  pub set-long : length set ≡ length ps
-  set-long = paired-length ps bs (slices-equal (length masks) ps bs b)
+  long : length set ≡ length ps
+  long = slices-length (length masks) ps bs b
 
   module _ (a e : ℕ) (within : a ≤ length ps) (end : e ≡ far R (length ps) a) where
     pub part-bounds : (a ≤ e) × (e ≤ length ps) × (e ≤ length bs) × (length (take (e - a) (drop a ps)) ≤ min (g .limit) (length ps))
@@ -50,8 +49,8 @@ module _ (g : Settings) (masks : List ℕ) (stop : TestSlice) (ps bs : List ℕ)
     same-part =
         paired-take (e - a) (drop a ps) (drop a bs)
         ∙ ap (take (e - a)) (paired-drop a ps bs (slices-equal (length masks) ps bs b))
-        ∙ ap (λ (k : ℕ). take (k - a) (drop a set)) (end ∙ ap (λ (n : ℕ). far R n a) (sym set-long))
+        ∙ ap (λ (k : ℕ). take (k - a) (drop a set)) (end ∙ ap (λ (n : ℕ). far R n a) (sym long))
 
     pub part-window : (r : Window) → r ≡ reachOf M stop true (paired (take (e - a) (drop a ps)) (take (e - a) (drop a bs))) → Reaches M R set a r
     unfolding closes
-    part-window r q = rw (q, same-part) (reaches M R set a (omega (arith, set-long)))
+    part-window r q = rw (q, same-part) (reaches M R set a (omega (arith, long)))

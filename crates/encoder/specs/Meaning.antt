@@ -2,7 +2,7 @@
 --     Delivers set expanded      an expanding is accepted where there is space, with the set's total, and slice i agrees with test slice i; `expanded` gives its outcome for a lent buffer
 --     Shortest M R set seeds     the seeds cover a cutting of the set, and no list of states that covers any cutting of it is shorter; after any number of seeds no other list has delivered more
 --     Uncut M R set g            the set has no cutting, and its longest start that can be cut has g slices
---     Listed M R set n           the list that enough space gives has n seeds
+--     Listed M R set n           a shortest list of the set has n seeds
 --     Meaning M R set out o      what the outcome o says of the set
 --     SetMeaning .. o            what the outcome o of the whole call says, with the stop slice handed in
 --     StoppedMeaning, CubesMeaning .. o     what the outcome o of the whole call says, for cubes with the stop slice of the steps

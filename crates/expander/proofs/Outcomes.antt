@@ -1,11 +1,10 @@
 -- The outcome of expanding, by what the walk over the seeds delivers.
---     outcome-parts, refused-parts                the answer and the buffer of an outcome
 --     found-refused, found-other, found-short     the cause of a seed, 14, 9: every entry of the buffer is as it was
 --     Found, found-whole                          the slices are written
 --     call-refused, call-formed                   the whole call, by its checks
 --     call-ready, few-seeds                       a well-formed call fits words, and has at most 2,048 seeds
 -- Assumes nothing.
-use mathlib.Core.Path.{_≡_, refl, sym, ap, ap₂, _∙_}
+use mathlib.Core.Path.{_≡_, refl, sym, ap, _∙_}
 use mathlib.Core.Bool.{Bool, true, false}
 use mathlib.Core.List.{List, _++_}
 use Prim.Native.Nat.{ℕ, _+_, _≤_, _<_}
@@ -13,12 +12,12 @@ use native.Mathlib.Omega.{arith}
 use lib.ListN.{length, drop}
 use lib.Dec.{eqb}
 use lib.Seq.{sets, sets-eq}
-use borrow.Author.Tests.{le-leb, lt-leb, eq-eqb, ne-eqb}
+use borrow.Author.Tests.{eq-eqb, ne-eqb}
 use Rattle.causes.specs.declared.Cause.{Cause}
 use Rattle.causes.specs.declared.Cause.the-variants.{NoSpace, Total}
-use Rattle.causes.specs.declared.Written.{Written}
 use Rattle.causes.specs.declared.Written.the-variants.{Count, Refused}
-use Rattle.causes.specs.Outcome.{Outcome, refuse, fill}
+use Rattle.causes.specs.Outcome.{refuse, fill}
+use Rattle.causes.proofs.Outcome.{fill-whole, fill-short}
 use Rattle.register.specs.declared.Settings.{Settings}
 use Rattle.register.specs.Machine.{Machine, machine}
 use Rattle.register.proofs.Causes.{cells-within, chains-within}
@@ -32,13 +31,6 @@ use Rattle.covering.specs.Rules.{Rules, rules}
 use Rattle.expander.specs.Expanding.{Walk, ran, failed, walk, totalled, expanding, expandList}
 use Rattle.expander.specs.Code.{Ready, tally}
 use Rattle.checks.specs.declared.Verdict.the-variants as verdict
-
-pub outcome-parts : (o : Outcome) (answer : Written) (buffer : List ℕ) → o ≡ record { answer = answer; buffer = buffer } → (answer ≡ o .answer) × (buffer ≡ o .buffer)
-outcome-parts o answer buffer e = (sym (ap (λ (p : Outcome). p .answer) e), sym (ap (λ (p : Outcome). p .buffer) e))
-
-pub refused-parts : (o : Outcome) (c : Cause) (out : List ℕ) → o ≡ refuse c out → (Refused c ≡ o .answer) × (out ≡ o .buffer)
-unfolding refuse
-refused-parts o c out e = outcome-parts o (Refused c) out e
 
 module _ (M : Machine) (R : Rules) (n : ℕ) (seeds out : List ℕ) where
   abbrev walked : Walk
@@ -81,15 +73,13 @@ module _ (M : Machine) (R : Rules) (n : ℕ) (seeds out : List ℕ) where
       filled = by-length true (eq-eqb (length vs) n (f .count ∙ same))
 
       pub found-short : length out < t → expanding M R n seeds out ≡ refuse (NoSpace t) out
-      unfolding fill
-      found-short l =
-          filled ∙ rw (lt-leb (length vs) (length out) (omega (arith, f .count)), fill) (ap (λ (k : ℕ). refuse (NoSpace k) out) (f .count))
+      found-short l = filled ∙ fill-short vs out t (f .count) l
 
       pub found-whole : t ≤ length out → expanding M R n seeds out ≡ record { answer = Count t; buffer = sets out 0 vs }
-      unfolding fill
       found-whole l =
-          let e : sets out 0 vs ≡ vs ++ drop (length vs) out = sets-eq vs out 0 (omega (arith, f .count)) ∙ (let z : 0 + length vs ≡ length vs = omega arith in rw z) in
-          filled ∙ rw (le-leb (length vs) (length out) (omega (arith, f .count)), fill) (ap₂ (λ (k : ℕ) (b : List ℕ). record { answer = Count k; buffer = b }) (f .count) (sym e))
+          let z : 0 + length vs ≡ t = omega (arith, f .count) in
+          let e : sets out 0 vs ≡ vs ++ drop t out = sets-eq vs out 0 (omega (arith, f .count)) ∙ rw z in
+          filled ∙ fill-whole vs out t (f .count) l ∙ ap (λ (b : List ℕ). record { answer = Count t; buffer = b }) (sym e)
 
 module _ (g : Settings) (masks : List ℕ) (stop : TestSlice) (n : ℕ) (seeds out : List ℕ) where
   abbrev verdict-of : Verdict

@@ -2,17 +2,19 @@
 --     register-range, register-beyond, register-last     cause 1
 --     chains-count, chains-masks                         cause 2
 --     cells-within, count-within, chains-within          what is not refused by them: 1 to 64 cells, 1 to 64 chains
+--     taps-below, chains-counted, chains-masked          taps below 2 to the cells, so many chains, no bad mask
 -- Assumes nothing.
 use mathlib.Core.Path.{_≡_}
-use mathlib.Core.Bool.{true, false, not}
+use mathlib.Core.Bool.{true, false, not, _||_}
 use mathlib.Core.List.{List}
-use Prim.Native.Nat.{ℕ, _-_, _≤_}
+use Prim.Native.Nat.{ℕ, _-_, _^_, _≤_, _<_}
 use lib.Dec.{eqb}
 use lib.ListN.{length}
 use borrow.Author.Tests.{not-false}
 use Rattle.bounded.specs.Bounded.{within, any}
 use Rattle.bounded.proofs.Tests.{neither, within-yes}
 use Rattle.gf2.specs.Words.{digit, beyond}
+use Rattle.gf2.proofs.Digits.{no-beyond}
 use Rattle.register.specs.Register.{badRegister}
 use Rattle.register.specs.Chains.{badCount, badMask, badChains}
 
@@ -33,6 +35,12 @@ module _ (cells taps : ℕ) where
   unfolding badRegister
   cells-within b = within-yes 1 64 cells (not-false (within 1 64 cells) (neither (not (within 1 64 cells)) _ b .0))
 
+  pub taps-below : badRegister cells taps ≡ false → taps < 2 ^ cells
+  unfolding badRegister
+  taps-below b =
+      let rest = neither (not (within 1 64 cells)) (beyond cells taps || eqb (digit taps (cells - 1)) 0) b .1 in
+      no-beyond cells taps (neither (beyond cells taps) (eqb (digit taps (cells - 1)) 0) rest .0)
+
 pub count-within : (chains : ℕ) → badCount chains ≡ false → (1 ≤ chains) × (chains ≤ 64)
 unfolding badCount
 count-within chains b = within-yes 1 64 chains (not-false (within 1 64 chains) b)
@@ -46,6 +54,13 @@ module _ (cells : ℕ) (masks : List ℕ) where
   unfolding badChains
   chains-masks b = rw b
 
-  pub chains-within : badChains cells masks ≡ false → (1 ≤ length masks) × (length masks ≤ 64)
+  pub chains-counted : badChains cells masks ≡ false → badCount (length masks) ≡ false
   unfolding badChains
-  chains-within b = count-within (length masks) (neither (badCount (length masks)) _ b .0)
+  chains-counted b = neither (badCount (length masks)) (any (badMask cells) masks) b .0
+
+  pub chains-masked : badChains cells masks ≡ false → any (badMask cells) masks ≡ false
+  unfolding badChains
+  chains-masked b = neither (badCount (length masks)) (any (badMask cells) masks) b .1
+
+  pub chains-within : badChains cells masks ≡ false → (1 ≤ length masks) × (length masks ≤ 64)
+  chains-within b = count-within (length masks) (chains-counted b)

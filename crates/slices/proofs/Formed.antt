@@ -2,26 +2,29 @@
 --     Formed chains t       its specified positions are among the chains, and its bits among those
 --     slice-formed, stop-slice     what causes 4 and 5 do not refuse is so
 --     paired-take, paired-drop     the test slices of the first and of the last entries
+--     slices-length, slices-at     well-formed slices are as many as their specified positions; the one at a place
 --     slices-all            none of the test slices is bad
 --     slices-each           nor is that at a place
 --     slices-take, slices-drop     the first and the last of well-formed slices are well-formed
 -- Assumes nothing.
 use mathlib.Core.Path.{_≡_, refl, ap}
-use mathlib.Core.Bool.{Bool, false, not, _||_}
+use mathlib.Core.Bool.{false, not, _||_}
 use mathlib.Core.List.{List, [], _∷_}
 use Prim.Native.Nat.{ℕ, zero, suc, _^_, _<_}
 use native.Mathlib.Omega.{arith}
 use lib.Bits.{bitAnd}
 use lib.Dec.{eqb}
-use lib.ListN.{length, take, drop, length-take, length-drop}
+use lib.ListN.{length, getD, take, drop, length-take, length-drop}
 use borrow.Author.Tests.{eqb-true, eq-eqb, not-false}
 use Rattle.bounded.specs.Bounded.{any}
 use Rattle.bounded.proofs.Tests.{neither}
+use Rattle.bounded.proofs.Any.{any-take, any-drop}
 use Rattle.gf2.specs.Words.{beyond}
 use Rattle.gf2.proofs.Digits.{no-beyond}
 use Rattle.slices.specs.Slices.{paired, badSlice, badSlices, badStop}
 use Rattle.slices.specs.declared.TestSlice.{TestSlice}
 use Rattle.slices.proofs.Causes.{sliceAt, slices-equal}
+use Rattle.slices.proofs.Paired.{paired-length, paired-at}
 
 pub record Formed (chains : ℕ) (t : TestSlice) : Type 0 where
   pub among : t .specified < 2 ^ chains
@@ -57,20 +60,13 @@ paired-drop (suc k) [] (b ∷ bs) e = absurd (omega arith)
 paired-drop (suc k) (p ∷ ps) [] e = absurd (omega arith)
 paired-drop (suc k) (p ∷ ps) (b ∷ bs) e = paired-drop k ps bs (omega arith)
 
-module _ (p : TestSlice → Bool) where
-  any-take : (k : ℕ) (l : List TestSlice) → any p l ≡ false → any p (take k l) ≡ false
-  unfolding any
-  any-take zero l h = refl
-  any-take (suc k) [] h = h
-  any-take (suc k) (x ∷ l) h = let a = neither (p x) (any p l) h in rw (a .0) (any-take k l (a .1))
-
-  any-drop : (k : ℕ) (l : List TestSlice) → any p l ≡ false → any p (drop k l) ≡ false
-  unfolding any
-  any-drop zero l h = h
-  any-drop (suc k) [] h = h
-  any-drop (suc k) (x ∷ l) h = any-drop k l (neither (p x) (any p l) h .1)
-
 module _ (chains : ℕ) where
+  pub slices-length : (ps bs : List ℕ) → badSlices chains ps bs ≡ false → length (paired ps bs) ≡ length ps
+  slices-length ps bs b = paired-length ps bs (slices-equal chains ps bs b)
+
+  pub slices-at : (ps bs : List ℕ) → badSlices chains ps bs ≡ false → (i : ℕ) (d : TestSlice) → i < length ps → getD (paired ps bs) i d ≡ sliceAt ps bs i
+  slices-at ps bs b i d h = paired-at ps bs i d h (slices-equal chains ps bs b)
+
   pub slices-all : (ps bs : List ℕ) → badSlices chains ps bs ≡ false → any (badSlice chains) (paired ps bs) ≡ false
   unfolding badSlices
   slices-all ps bs b = neither (not (eqb (length ps) (length bs))) (any (badSlice chains) (paired ps bs)) b .1

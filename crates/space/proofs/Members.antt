@@ -7,7 +7,7 @@
 -- Assumes nothing.
 use mathlib.Core.Path.{_≡_, refl}
 use mathlib.Core.Logic.{_⊎_, inl, inr, ⊎-elim}
-use mathlib.Core.Bool.{Bool, true, false, _||_}
+use mathlib.Core.Bool.{true}
 use mathlib.Core.List.{List, [], _∷_}
 use Prim.Native.Nat.{ℕ, suc, _^_, _≤_, _<_}
 use native.Mathlib.Nat.{lt-of-lt-of-le}
@@ -15,6 +15,7 @@ use native.Mathlib.Omega.{arith}
 use lib.Bits.{bitXor}
 use lib.Pow.{pow-mono}
 use borrow.Author.Tests.{eqb-true, eq-eqb}
+use Rattle.bounded.proofs.Tests.{either, or-right}
 use Rattle.gf2.specs.Words.{digit}
 use Rattle.gf2.proofs.Digits.{digit-wide}
 use Rattle.gf2.proofs.Xor.{digit-xor, highest-below, highest-rises}
@@ -23,14 +24,6 @@ use Rattle.space.specs.Space.{among, Rising, none, more}
 unfoldable pub Among : ℕ → List ℕ → ℕ → Type 0
 Among x [] s = s ≡ x
 Among x (v ∷ vs) s = Among x vs s ⊎ Among (bitXor x v) vs s
-
-either : (a b : Bool) → a || b ≡ true → (a ≡ true) ⊎ (b ≡ true)
-either true b e = inl refl
-either false b e = inr e
-
-or-right : (a b : Bool) → b ≡ true → a || b ≡ true
-or-right true b e = refl
-or-right false b e = e
 
 pub among-is : (vs : List ℕ) (x s : ℕ) → among x vs s ≡ true → Among x vs s
 unfolding among Among

@@ -1,6 +1,7 @@
 -- The whole call for a stop slice.
 --     call-refused, call-formed     its answer, by the checks
---     few-chains                    a well-formed call has at most 64 chains
+--     few-chains, some-slice        a well-formed call has at most 64 chains, and a slice
+--     steps-stop, steps-refused     what its answer says of the steps
 --     formed-means                  what a stop slice that it gives is good for
 --     refused-means                 a well-formed call is refused only where slices are in and no position is unset
 -- Assumes nothing.
@@ -14,8 +15,7 @@ use Rattle.causes.specs.declared.Cause.{Cause}
 use Rattle.register.proofs.Causes.{count-within}
 use Rattle.slices.specs.declared.TestSlice.{TestSlice}
 use Rattle.slices.specs.Slices.{paired}
-use Rattle.slices.proofs.Paired.{paired-length}
-use Rattle.slices.proofs.Causes.{slices-equal}
+use Rattle.slices.proofs.Formed.{slices-length}
 use Rattle.checks.proofs.Lengths.{set-within}
 use Rattle.checks.specs.Order.{judged}
 use Rattle.checks.specs.Calls.{stopFaults}
@@ -26,7 +26,18 @@ use Rattle.stop.specs.Entry.{stopOr6, stopOf}
 use Rattle.stop.specs.Meaning.{StopMeaning, SixMeaning}
 use Rattle.stop.specs.declared.Formed.the-variants.{Stop, Refused}
 use Rattle.stop.proofs.Meaning.{stop-means, six-means}
+use Rattle.causes.specs.declared.Cause.the-variants as cause
 use Rattle.checks.specs.declared.Verdict.the-variants as verdict
+
+or6-stop : (o : Option TestSlice) (stop : TestSlice) → stopOr6 o ≡ Stop stop → o ≡ some stop
+unfolding stopOr6
+or6-stop none stop e = absurd (let z : _≡_ {A = ℕ} 0 1 = cc in omega arith)
+or6-stop (some s) stop e = ap some (let q : s ≡ stop = cc in q)
+
+or6-refused : (o : Option TestSlice) (c : Cause) → stopOr6 o ≡ Refused c → (o ≡ none) × (c ≡ cause.SlicesIn)
+unfolding stopOr6
+or6-refused none c e = (refl, let q : c ≡ cause.SlicesIn = cc in q)
+or6-refused (some s) c e = absurd (let z : _≡_ {A = ℕ} 0 1 = cc in omega arith)
 
 module _ (chains : ℕ) (specified bits : List ℕ) where
   abbrev set : List TestSlice
@@ -50,27 +61,22 @@ module _ (chains : ℕ) (specified bits : List ℕ) where
   unfolding stopFaults
   few-chains w = count-within chains (faultless w .chains) .1
 
-  some-slice : verdict-of ≡ verdict.WellFormed → 0 < length set
+  pub some-slice : verdict-of ≡ verdict.WellFormed → 0 < length set
   unfolding stopFaults
-  some-slice w =
-      omega (arith, set-within (length specified) (faultless w .lengths) .0, paired-length specified bits (slices-equal chains specified bits (faultless w .slices)))
+  some-slice w = omega (arith, set-within (length specified) (faultless w .lengths) .0, slices-length chains specified bits (faultless w .slices))
+
+  pub steps-stop : verdict-of ≡ verdict.WellFormed → (stop : TestSlice) → stopOf chains specified bits ≡ Stop stop → stopFor chains set ≡ some stop
+  steps-stop w stop e = or6-stop (stopFor chains set) stop (sym (call-formed w) ∙ e)
+
+  pub steps-refused : verdict-of ≡ verdict.WellFormed → (c : Cause) → stopOf chains specified bits ≡ Refused c → (stopFor chains set ≡ none) × (c ≡ cause.SlicesIn)
+  steps-refused w c e = or6-refused (stopFor chains set) c (sym (call-formed w) ∙ e)
 
   pub formed-means : (stop : TestSlice) → stopOf chains specified bits ≡ Stop stop → StopMeaning chains set stop
-  unfolding stopOr6
   formed-means stop e = go verdict-of refl
     where
-      given : (o : Option TestSlice) → stopFor chains set ≡ o → stopOr6 o ≡ Stop stop → 0 < length set → StopMeaning chains set stop
-      given none f g h = absurd (let z : _≡_ {A = ℕ} 0 1 = cc in omega arith)
-      given (some s) f g h = let same : s ≡ stop = cc in stop-means chains set stop h (f ∙ ap some same)
-
       go : (v : Verdict) → verdict-of ≡ v → StopMeaning chains set stop
       go (verdict.Refused c) w = absurd (let f = call-refused c w in let z : _≡_ {A = ℕ} 0 1 = cc in omega arith)
-      go verdict.WellFormed w = given (stopFor chains set) refl (sym (call-formed w) ∙ e) (some-slice w)
+      go verdict.WellFormed w = stop-means chains set stop (some-slice w) (steps-stop w stop e)
 
   pub refused-means : (c : Cause) → verdict-of ≡ verdict.WellFormed → stopOf chains specified bits ≡ Refused c → SixMeaning chains set
-  unfolding stopOr6
-  refused-means c w e = given (stopFor chains set) refl (sym (call-formed w) ∙ e)
-    where
-      given : (o : Option TestSlice) → stopFor chains set ≡ o → stopOr6 o ≡ Refused c → SixMeaning chains set
-      given none f g = six-means chains set f
-      given (some s) f g = absurd (let z : _≡_ {A = ℕ} 0 1 = cc in omega arith)
+  refused-means c w e = six-means chains set (steps-refused w c e .0)

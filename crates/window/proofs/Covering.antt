@@ -8,26 +8,26 @@
 -- Assumes nothing.
 use mathlib.Core.Path.{_≡_, refl, sym, ap, ap₂, _∙_}
 use mathlib.Core.Logic.{⊎-elim}
-use mathlib.Core.Bool.{Bool, true, false, not, _&&_, _||_}
+use mathlib.Core.Bool.{Bool, true, false, not, _&&_, _||_, and-assoc}
 use mathlib.Core.List.{List, [], _∷_, map}
-use Prim.Native.Nat.{ℕ, zero, suc, _+_, _-_, _*_, _/_, _%_, _^_, _≤_, _<_, min}
+use Prim.Native.Nat.{ℕ, zero, suc, _+_, _*_, _/_, _%_, _^_, _≤_, _<_, min}
 use native.Mathlib.Nat.{zero-lt-suc}
 use native.Mathlib.Omega.{arith}
 use lib.Bits.{bitAnd, and-step, and-zero-r, xor-zero-r}
 use lib.Dec.{eqb}
 use lib.ListN.{length, length-map}
 use borrow.Author.Tests.{eqb-true, eq-eqb, not-true}
-use Rattle.bounded.specs.Bounded.{any, within}
-use Rattle.bounded.proofs.Tests.{both, and-yes, and-assoc, alike, neither, eq-or-not}
-use Rattle.gf2.specs.Words.{digit, odd, beyond}
+use Rattle.bounded.specs.Bounded.{any}
+use Rattle.bounded.proofs.Tests.{both, and-yes, alike, neither, eq-or-not}
+use Rattle.gf2.specs.Words.{odd}
 use Rattle.gf2.proofs.Digits.{no-beyond}
 use Rattle.gf2.proofs.Parity.{odd-lt}
 use Rattle.register.specs.declared.Settings.{Settings}
-use Rattle.register.specs.Register.{steps, pulls, badRegister}
-use Rattle.register.specs.Chains.{slice, badCount, badMask, badChains}
+use Rattle.register.specs.Register.{steps, pulls}
+use Rattle.register.specs.Chains.{slice, badMask}
 use Rattle.register.specs.Machine.{Machine, machine}
 use Rattle.register.proofs.Steps.{pulls-law}
-use Rattle.register.proofs.Causes.{cells-within}
+use Rattle.register.proofs.Causes.{cells-within, taps-below, chains-masked}
 use Rattle.slices.specs.declared.TestSlice.{TestSlice}
 use Rattle.slices.specs.Slices.{agrees, shows, badSlice}
 use Rattle.slices.proofs.Formed.{Formed, slice-formed, stop-slice}
@@ -122,24 +122,13 @@ module _ (g : Settings) (masks : List ℕ) (stop : TestSlice) (p : Pattern) (tab
   abbrev run : ℕ → ℕ → ℕ
   run t s = steps (g .cells) (g .taps) t s
 
-  lawful : (0 < g .cells) × (g .taps < 2 ^ g .cells)
-  unfolding badRegister
-  lawful =
-      let a = neither (not (within 1 64 (g .cells))) (beyond (g .cells) (g .taps) || eqb (digit (g .taps) (g .cells - 1)) 0) (r .register) in
-      let b = neither (beyond (g .cells) (g .taps)) (eqb (digit (g .taps) (g .cells - 1)) 0) (a .1) in
-      (cells-within (g .cells) (g .taps) (r .register) .0, no-beyond (g .cells) (g .taps) (b .0))
-
-  masked : any (badMask (g .cells)) masks ≡ false
-  unfolding badChains
-  masked = neither (badCount (length masks)) (any (badMask (g .cells)) masks) (r .chains) .1
-
   -- slice t of the seed s agrees with a test slice: row t of the table
   agrees-row : (x : TestSlice) (t s : ℕ) → t < n → Formed c x → agrees x (M .slice (run t s)) ≡ meets (row c table t) (x .specified) (x .bits) s
   unfolding agrees
   agrees-row x t s h f =
       ap (λ (v : ℕ). eqb (bitAnd v (x .specified)) (x .bits)) (xor-zero-r (slice masks (run t s)))
       ∙ agrees-meets masks (x .specified) (x .bits) (run t s) (f .among) (f .inside)
-      ∙ sym (meets-pulled (g .cells) (g .taps) (lawful .0) (lawful .1) masks (x .specified) (x .bits) t s masked)
+      ∙ sym (meets-pulled (g .cells) (g .taps) (cells-within (g .cells) (g .taps) (r .register) .0) (taps-below (g .cells) (g .taps) (r .register)) masks (x .specified) (x .bits) t s (chains-masked (g .cells) masks (r .chains)))
       ∙ sym (ap (λ (l : List ℕ). meets l (x .specified) (x .bits) s) (r .table .rows t h))
 
   stop-formed : Formed c stop
@@ -165,7 +154,7 @@ module _ (g : Settings) (masks : List ℕ) (stop : TestSlice) (p : Pattern) (tab
       let close : Bool = not closing || meets (row c table (suc t + length w)) (stop .specified) (stop .bits) s in
       rw (agrees-row x t s (omega arith) (slice-formed c x (a .0)), e)
       (ap (λ (b : Bool). meets (row c table t) (x .specified) (x .bits) s && b) (fits-from w closing (suc t) s (omega arith) (a .1))
-      ∙ and-assoc (meets (row c table t) (x .specified) (x .bits) s) (allMeet c table (suc t) w s) close)
+      ∙ sym (and-assoc (meets (row c table t) (x .specified) (x .bits) s) (allMeet c table (suc t) w s) close))
 
   quiet-at : (m t s : ℕ) → t + m ≤ n → quiet M stop m (run t s) ≡ true → (u : ℕ) → u < m → shown p clauses (t + u) s ≡ false
   unfolding quiet steps

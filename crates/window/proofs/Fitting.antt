@@ -6,21 +6,21 @@
 --     allowed-closed, allowed-open     the closing stop after the slices, or none
 --     fitted-start, fitted-next, fitted-stop, fitted-end     at the start, after a slice, where nothing is left, and at the end
 -- Assumes nothing.
-use mathlib.Core.Path.{_≡_, refl, sym, ap, _∙_}
-use mathlib.Core.Bool.{Bool, true, false, _&&_}
+use mathlib.Core.Path.{_≡_, refl, sym, ap, ap₂, _∙_}
+use mathlib.Core.Bool.{Bool, true, false, _&&_, and-true, and-assoc}
 use mathlib.Core.List.{List, [], _∷_}
 use Prim.Native.Nat.{ℕ, zero, suc, _+_, _-_, _*_, _≤_, _<_}
 use native.Mathlib.Numerals.{add-one}
 use native.Mathlib.Omega.{arith}
 use lib.ListN.{getD, length, take, drop}
 use lib.Seq.{take-all}
-use Rattle.bounded.proofs.Tests.{clash, fails, both, and-yes, and-true, and-assoc}
+use Rattle.bounded.proofs.Tests.{clash, fails, both, and-yes}
 use Rattle.space.specs.declared.Space.{Space}
 use Rattle.search.specs.Clauses.{row}
 use Rattle.slices.specs.declared.TestSlice.{TestSlice}
 use Rattle.slices.specs.Slices.{paired, badSlices}
-use Rattle.slices.proofs.Causes.{sliceAt, slices-equal}
-use Rattle.slices.proofs.Paired.{paired-length, paired-at}
+use Rattle.slices.proofs.Causes.{sliceAt}
+use Rattle.slices.proofs.Formed.{slices-length, slices-at}
 use Rattle.window.specs.Code.{meets, allMeet, allowed, Member, Narrows, Fits}
 use Rattle.window.proofs.Narrowing.{narrows-none, narrows-same, narrows-then}
 
@@ -37,7 +37,7 @@ module _ (c : ℕ) (table : List ℕ) where
   meet-last (x ∷ w) t zero s d h = let e : t + 0 ≡ t = omega arith in rw e (and-true (Meets t x s))
   meet-last (x ∷ w) t (suc k) s d h =
       let e : t + suc k ≡ suc t + k = omega arith in
-      rw e (ap (λ (b : Bool). Meets t x s && b) (meet-last w (suc t) k s d (omega arith)) ∙ and-assoc (Meets t x s) (allMeet c table (suc t) (take k w) s) (Meets (suc t + k) (getD w k d) s))
+      rw e (ap (λ (b : Bool). Meets t x s && b) (meet-last w (suc t) k s d (omega arith)) ∙ sym (and-assoc (Meets t x s) (allMeet c table (suc t) (take k w) s) (Meets (suc t + k) (getD w k d) s)))
 
   pub meet-front : (w : List TestSlice) (t j k s : ℕ) → j ≤ k → allMeet c table t (take k w) s ≡ true → allMeet c table t (take j w) s ≡ true
   unfolding allMeet
@@ -49,54 +49,51 @@ module _ (c : ℕ) (table : List ℕ) where
       and-yes (Meets t x s) (allMeet c table (suc t) (take j w) s) (a .0) (meet-front w (suc t) j k s (omega arith) (a .1))
 
   module _ (w : List TestSlice) (x : Space) (us : List ℕ) where
-    abbrev Q : ℕ → ℕ → Bool
-    Q k s = allMeet c table 0 (take k w) s
-
     abbrev pub Fitted : ℕ → Space → List ℕ → Type 0
-    Fitted k y vs = Narrows (Q k) x us y vs
+    Fitted k y vs = Narrows (allMeet c table 0 (take k w)) x us y vs
 
     pub fitted-start : Fitted 0 x us
     unfolding allMeet
     fitted-start = narrows-none x us
 
-    pub fitted-next : (k : ℕ) (d : TestSlice) (y : Space) (vs : List ℕ) (z : Space) (ws : List ℕ) → k < length w → Fitted k y vs → Narrows (Meets k (getD w k d)) y vs z ws → Fitted (k + 1) z ws
-    fitted-next k d y vs z ws h f g =
-        let e : 0 + k ≡ k = omega arith in
-        narrows-same (λ s. Q k s && Meets k (getD w k d) s) (Q (k + 1)) x us z ws
-        (λ s. sym (ap (λ (n : ℕ). Q n s) (add-one k) ∙ meet-last w 0 k s d h ∙ ap (λ (n : ℕ). Q k s && Meets n (getD w k d) s) e))
-        (narrows-then (Q k) (Meets k (getD w k d)) x us y vs z ws f g)
+  module _ (ps bs : List ℕ) (b : badSlices c ps bs ≡ false) (x : Space) (us : List ℕ) where
+    abbrev w : List TestSlice
+    w = paired ps bs
 
-    none : (k : ℕ) (z : Space) (ws : List ℕ) → Fitted k z ws → z .some ≡ false → (s : ℕ) → Member x us s → Q k s ≡ true → ⊥
+    abbrev Q : ℕ → ℕ → Bool
+    Q k s = allMeet c table 0 (take k w) s
+
+    long : length w ≡ length ps
+    long = slices-length c ps bs b
+
+    pub fitted-next : (k : ℕ) (y : Space) (vs : List ℕ) (z : Space) (ws : List ℕ) → k < length ps → Fitted w x us k y vs → Narrows (Meets k (sliceAt ps bs k)) y vs z ws → Fitted w x us (k + 1) z ws
+    fitted-next k y vs z ws h f g =
+        let d = sliceAt ps bs k in
+        let e : 0 + k ≡ k = omega arith in
+        narrows-same (λ s. Q k s && Meets k d s) (Q (k + 1)) x us z ws
+        (λ s. sym (ap (λ (n : ℕ). Q n s) (add-one k) ∙ meet-last w 0 k s d (omega (arith, long)) ∙ ap₂ (λ (n : ℕ) (t : TestSlice). Q k s && Meets n t s) e (slices-at c ps bs b k d h)))
+        (narrows-then (Q k) (Meets k d) x us y vs z ws f g)
+
+    none : (k : ℕ) (z : Space) (ws : List ℕ) → Fitted w x us k z ws → z .some ≡ false → (s : ℕ) → Member x us s → Q k s ≡ true → ⊥
     none k z ws f e s m q = clash (z .some) (f .complete s m q .0) e
 
-    pub fitted-stop : (k : ℕ) (z : Space) (ws : List ℕ) → k < length w → Fitted (k + 1) z ws → z .some ≡ false → Fits c table w x us (record { space = z; slices = k }) ws
+    pub fitted-stop : (k : ℕ) (z : Space) (ws : List ℕ) → k < length ps → Fitted w x us (k + 1) z ws → z .some ≡ false → Fits c table w x us (record { space = z; slices = k }) ws
     fitted-stop k z ws h f e = record {
-      within = omega arith;
+      within = omega (arith, long);
       whole = record {
         sound = λ s m. absurd (clash (z .some) (m .0) e);
-        complete = λ s m q. absurd (none (k + 1) z ws f e s m (meet-front w 0 (k + 1) (length w) s (omega arith) (rw (take-all (length w) w (omega arith)) q)));
+        complete = λ s m q. absurd (none (k + 1) z ws f e s m (meet-front w 0 (k + 1) (length w) s (omega (arith, long)) (rw (take-all (length w) w (omega arith)) q)));
         rising = λ r t. absurd (clash (z .some) t e);
       };
       more = λ j s l b m. fails (Q j s) (λ q. none (k + 1) z ws f e s m (meet-front w 0 (k + 1) j s (omega arith) q));
     }
 
-    pub fitted-end : (k : ℕ) (z : Space) (ws : List ℕ) → k ≤ length w → length w ≤ k → Fitted k z ws → Fits c table w x us (record { space = z; slices = k }) ws
-    fitted-end k z ws h l f =
-        let e : k ≡ length w = omega arith in
-        record {
-          within = h;
-          whole = narrows-same (Q k) (allMeet c table 0 w) x us z ws (λ s. ap (λ (v : List TestSlice). allMeet c table 0 v s) (take-all k w (omega arith))) f;
-          more = λ j s a b m. absurd (omega arith);
-        }
-
--- ---- what the loop reads at a place
-
-module _ (c : ℕ) (ps bs : List ℕ) (b : badSlices c ps bs ≡ false) where
-  pub long-enough : length (paired ps bs) ≡ length ps
-  long-enough = paired-length ps bs (slices-equal c ps bs b)
-
-  pub slice-here : (i : ℕ) (d : TestSlice) → i < length ps → getD (paired ps bs) i d ≡ sliceAt ps bs i
-  slice-here i d h = paired-at ps bs i d h (slices-equal c ps bs b)
+    pub fitted-end : (k : ℕ) (z : Space) (ws : List ℕ) → k ≤ length ps → length ps ≤ k → Fitted w x us k z ws → Fits c table w x us (record { space = z; slices = k }) ws
+    fitted-end k z ws h l f = record {
+      within = omega (arith, long);
+      whole = narrows-same (Q k) (allMeet c table 0 w) x us z ws (λ s. ap (λ (v : List TestSlice). allMeet c table 0 v s) (take-all k w (omega (arith, long)))) f;
+      more = λ j s a b m. absurd (omega (arith, long));
+    }
 
 -- ---- with the closing stop, and without
 

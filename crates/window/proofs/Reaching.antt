@@ -1,5 +1,4 @@
 -- The longest window from a start, as its loop goes down through the lengths.
---     state-some, nothing-none     what was found says whether there is a seed
 --     Passed            no longer length has a seed
 --     passed-start      those whose bits cannot be met together have none
 --     passed-next       one length more has none
@@ -8,7 +7,7 @@
 use mathlib.Core.Path.{_≡_, refl, sym, ap, ap₂, _∙_, subst}
 use mathlib.Core.Logic.{⊎-elim}
 use mathlib.Core.Bool.{Bool, false, _&&_, _||_}
-use mathlib.Core.Option.{Option, none, some}
+use mathlib.Core.Option.{none, some}
 use mathlib.Core.List.{List}
 use Prim.Native.Nat.{ℕ, zero, suc, _-_, _≤_, _<_}
 use native.Mathlib.Omega.{arith}
@@ -21,25 +20,14 @@ use Rattle.register.specs.declared.Settings.{Settings}
 use Rattle.register.specs.Machine.{Machine, machine}
 use Rattle.slices.specs.declared.TestSlice.{TestSlice}
 use Rattle.slices.specs.Slices.{paired, badSlices}
-use Rattle.slices.proofs.Formed.{slices-all, slices-take, paired-take}
-use Rattle.search.specs.declared.Found.the-variants.{State, Nothing}
+use Rattle.slices.proofs.Formed.{slices-length, slices-all, slices-take, paired-take}
 use Rattle.search.specs.declared.Pattern.{Pattern}
-use Rattle.search.specs.Search.{foundOf}
 use Rattle.covering.specs.Covering.{seedOf}
 use Rattle.covering.specs.Windows.{found}
 use Rattle.window.specs.Ready.{Ready}
 use Rattle.window.specs.Longest.{closesAt, seedFor, longest, reachOf}
 use Rattle.window.specs.Code.{Unmet}
-use Rattle.window.proofs.Fitting.{long-enough}
 use Rattle.window.proofs.Seeds.{unmet}
-
-pub state-some : (o : Option ℕ) (s : ℕ) → foundOf o ≡ State s → o ≡ some s
-state-some none s e = absurd (let z : _≡_ {A = ℕ} 0 1 = cc in omega arith)
-state-some (some t) s e = ap some (let q : t ≡ s = cc in q)
-
-pub nothing-none : (o : Option ℕ) → foundOf o ≡ Nothing → o ≡ none
-nothing-none none e = refl
-nothing-none (some t) e = absurd (let z : _≡_ {A = ℕ} 0 1 = cc in omega arith)
 
 module _ (M : Machine) (stop : TestSlice) (closing : Bool) (w : List TestSlice) where
   pub record Passed (k : ℕ) : Type 0 where
@@ -85,7 +73,7 @@ module _ (g : Settings) (masks : List ℕ) (stop : TestSlice) (p : Pattern) (tab
   w = paired ps bs
 
   long : length w ≡ length ps
-  long = long-enough (length masks) ps bs b
+  long = slices-length (length masks) ps bs b
 
   pub passed-start : (k : ℕ) → Unmet (length masks) table w (g .cells) k → Passed M stop closing w k
   unfolding seedFor

@@ -33,7 +33,7 @@ use Rattle.search.specs.Search.{foundOf, lowestClear}
 use Rattle.covering.specs.Covering.{covers, seedOf}
 use Rattle.window.specs.Ready.{Tabled, Ready}
 use Rattle.window.specs.Code.{allMeet, allowed, allStates, Member, Narrows, Fits, Unmet}
-use Rattle.window.specs.declared.Kept.{Kept}
+use Rattle.window.specs.declared.Met.{Met}
 use Rattle.window.proofs.Covering.{covers-tables}
 
 tabled-fewer : (taps m n : ℕ) (masks table : List ℕ) → m ≤ n → Tabled taps n masks table → Tabled taps m masks table
@@ -124,7 +124,7 @@ module _ (g : Settings) (masks : List ℕ) (stop : TestSlice) (p : Pattern) (tab
       let a = both (allowed c table stop closing w s) (clear p clauses (length w) s) (sym (table-covers closing s) ∙ t) in
       clash (allMeet c table 0 w s) (both (allMeet c table 0 w s) _ (a .0) .0) (u s l)))
 
-pub unmet-more : (cells : ℕ) → cells ≤ 64 → (c : ℕ) (table : List ℕ) (w : List TestSlice) (r : Kept) (vs : List ℕ) → Fits c table w (allStates cells) (unitsOf cells) r vs → Unmet c table w cells (r .slices)
+pub unmet-more : (cells : ℕ) → cells ≤ 64 → (c : ℕ) (table : List ℕ) (w : List TestSlice) (r : Met) (vs : List ℕ) → Fits c table w (allStates cells) (unitsOf cells) r vs → Unmet c table w cells (r .slices)
 unmet-more cells few c table w r vs f = record {
   within = f .within;
   more = λ j s l m h. f .more j s l m (states-complete cells few s h);

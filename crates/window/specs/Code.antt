@@ -18,7 +18,7 @@ use Rattle.space.specs.declared.Space.{Space}
 use Rattle.space.specs.Space.{among, Rising}
 use Rattle.search.specs.Clauses.{row}
 use Rattle.slices.specs.declared.TestSlice.{TestSlice}
-use Rattle.window.specs.declared.Kept.{Kept}
+use Rattle.window.specs.declared.Met.{Met}
 
 unfoldable pub meets : List ℕ → ℕ → ℕ → ℕ → Bool
 meets [] p b s = true
@@ -36,7 +36,7 @@ pub record Narrows (Q : ℕ → Bool) (y : Space) (vs : List ℕ) (z : Space) (w
   pub complete : (s : ℕ) → Member y vs s → Q s ≡ true → Member z ws s
   pub rising : Rising (y .lowest) 0 vs → z .some ≡ true → Rising (z .lowest) 0 ws
 
-pub record Fits (c : ℕ) (table : List ℕ) (w : List TestSlice) (x : Space) (us : List ℕ) (r : Kept) (vs : List ℕ) : Type 0 where
+pub record Fits (c : ℕ) (table : List ℕ) (w : List TestSlice) (x : Space) (us : List ℕ) (r : Met) (vs : List ℕ) : Type 0 where
   pub within : r .slices ≤ length w
   pub whole : Narrows (allMeet c table 0 w) x us (r .space) vs
   pub more : (j s : ℕ) → r .slices < j → j ≤ length w → Member x us s → allMeet c table 0 (take j w) s ≡ false

@@ -38,7 +38,7 @@ pub struct Window {
 }
 
 // What is left of a space after the slices of a window: its members, and how many of the slices they meet from the first on.
-struct Kept {
+struct Met {
     space: Space,
     slices: usize,
 }
@@ -115,7 +115,7 @@ fn fit(
     chains: usize,
     specified: &[u64],
     bits: &[u64],
-) -> Kept
+) -> Met
     requires { ⌜ badSlices chains (now specified) (now bits) ≡ false ⌝ }
     requires { ⌜ length (now specified) * chains ≤ length (now table) ⌝ }
     ensures { λ r. ⌜ Fits chains (now (table .entry)) (paired (now (specified .entry)) (now (bits .entry))) space (take (space .free) (now (vectors .entry))) r (take (r .space .free) (now (vectors .exit))) ⌝ }
@@ -129,14 +129,14 @@ fn fit(
         };
         kept = meet_row(vectors, kept, table, chains, slice, test);
         if !kept.some {
-            return Kept {
+            return Met {
                 space: kept,
                 slices: slice,
             };
         }
         slice += 1;
     }
-    Kept {
+    Met {
         space: kept,
         slices: slice,
     }
@@ -162,8 +162,8 @@ fn allow(
         free: cells,
         some: true,
     };
-    let fitted = fit(vectors, all, table, chains, specified, bits);
-    let kept = fitted.space;
+    let met = fit(vectors, all, table, chains, specified, bits);
+    let kept = met.space;
     if closing {
         return meet_row(vectors, kept, table, chains, specified.len(), stop);
     }
@@ -209,7 +209,6 @@ fn lowest_covering(
         allowed.lowest,
         vectors,
         allowed.free,
-        Found::Nothing,
     )
 }
 
@@ -225,8 +224,8 @@ fn most_met(cells: usize, table: &[u64], chains: usize, specified: &[u64], bits:
         free: cells,
         some: true,
     };
-    let fitted = fit(&mut vectors, all, table, chains, specified, bits);
-    fitted.slices
+    let met = fit(&mut vectors, all, table, chains, specified, bits);
+    met.slices
 }
 
 // The longest window from the first slice of a part on that some state covers, and its seed: lengths are tried from the longest whose bits alone can be met down.

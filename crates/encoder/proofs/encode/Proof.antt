@@ -7,9 +7,10 @@ use lib.ListN.{length}
 use borrow.Author.Needs.{needs}
 use Rattle.causes.specs.Outcome.{Outcome}
 use Rattle.slices.specs.Slices.{paired}
+use Rattle.slices.proofs.Formed.{slices-length}
+use Rattle.checks.proofs.Lengths.{set-within}
+use Rattle.checks.proofs.Stopped.{set-formed}
 use Rattle.window.proofs.Calls.{table-room, ready-tables}
-use Rattle.encoder.proofs.Formed.{set-formed}
-use Rattle.encoder.proofs.Starts.{set-long}
 use Rattle.encoder.proofs.Settling.{settled-encoding, gathered-held}
 use Rattle.encoder.proofs.encode.Statement.{statement}
 use Rattle.encoder.proofs.encode.Tie as tie
@@ -60,7 +61,7 @@ gather-requires c κs =
     let f = c .before .before .before .before .before .before .before .fill in
     let n : l .result + 1 ≡ suc (min (a .settings .limit) (length (a .specified .now))) = add-one (l .result) ∙ ap suc (l .ensures) in (
       rw (sym n) (ready-tables (a .settings) (a .masks .now) (a .stop) (k .result) (f .last .1 .1 .1 .0) (k .last .1 .1 .1 .1 .0) _ _ (l .result + 1) (w .register) (w .chains) (w .stop) (k .ensures .0) (f .ensures) (k .ensures .1)),
-      (w .slices, (s .pre .1, w .long, w .long)),
+      (w .slices, (s .pre .1, set-within (length (a .specified .now)) (w .lengths) .1, set-within (length (a .specified .now)) (w .lengths) .1)),
     )
 
 slice-aggregate-settle : tie.Need-slice-aggregate-settle
@@ -83,7 +84,7 @@ returns c =
     let r = c .before .before .before .before .before .before .gather in
     let t = c .before .before .settle in
     let w = set-formed (a .settings) (a .masks .now) (a .stop) (a .specified .now) (a .bits .now) (s .pre .0) in
-    let e = settled-encoding (a .settings) (a .masks .now) (a .stop) (paired (a .specified .now) (a .bits .now)) (r .result) (r .last .1 .1 .1 .1 .1 .1 .1 .1 .0) _ (r .ensures .0) (r .ensures .1) (length (a .specified .now)) (a .out .now) (set-long (a .settings) (a .masks .now) (a .stop) (a .specified .now) (a .bits .now) (w .slices)) in
+    let e = settled-encoding (a .settings) (a .masks .now) (a .stop) (paired (a .specified .now) (a .bits .now)) (r .result) (r .last .1 .1 .1 .1 .1 .1 .1 .1 .0) _ (r .ensures .0) (r .ensures .1) (length (a .specified .now)) (a .out .now) (slices-length (length (a .masks .now)) (a .specified .now) (a .bits .now) (w .slices)) in
     (t .ensures .0 ∙ ap (λ (o : Outcome). o .answer) e, t .ensures .1 ∙ ap (λ (o : Outcome). o .buffer) e)
 
 pub encode-spec : {M : Type 1} → statement M

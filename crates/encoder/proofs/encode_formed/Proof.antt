@@ -1,9 +1,12 @@
 -- `encoder::encode_formed` meets its contract. Assumes nothing.
 use mathlib.Core.Path.{sym, ap, _∙_}
+use lib.ListN.{length}
 use borrow.Author.Needs.{needs}
 use Rattle.encoder.specs.Encoding.{CubesOutcome, stopped, withStop}
 use Rattle.encoder.specs.declared.Encoded.the-variants.{Refused}
-use Rattle.encoder.proofs.Cubes.{steps-refused, steps-stop, stop-set, cubes-unstopped, cubes-stopped}
+use Rattle.stop.proofs.Calls.{steps-refused, steps-stop}
+use Rattle.encoder.proofs.Formed.{cubes-stop}
+use Rattle.encoder.proofs.Cubes.{stop-set, cubes-unstopped, cubes-stopped}
 use Rattle.encoder.proofs.encode_formed.Statement.{statement}
 use Rattle.encoder.proofs.encode_formed.Tie as tie
 
@@ -21,7 +24,7 @@ encode-requires c κs =
     let s = c .before .before .before .before .before .before .before .before .before in
     let a = s .args in
     let k = c .before .before .before .before .stop-slice in
-    let e = steps-stop (a .settings) (a .masks .now) (a .specified .now) (a .bits .now) (s .pre .0) _ (sym (k .ensures) ∙ c .before .before .formed2 .given .1) in
+    let e = steps-stop (length (a .masks .now)) (a .specified .now) (a .bits .now) (cubes-stop (a .settings) (a .masks .now) (a .specified .now) (a .bits .now) (s .pre .0)) _ (sym (k .ensures) ∙ c .before .before .formed2 .given .1) in
     (stop-set (a .settings) (a .masks .now) (a .specified .now) (a .bits .now) (s .pre .0) _ e, s .pre .1)
 
 with-stop-requires : tie.Need-with-stop-requires
@@ -32,7 +35,7 @@ returns c =
     let s = c .before .before .before .before .before .before .before .before in
     let a = s .args in
     let k = c .before .before .before .stop-slice in
-    let e = steps-refused (a .settings) (a .masks .now) (a .specified .now) (a .bits .now) (s .pre .0) _ (sym (k .ensures) ∙ c .before .formed .given .1) in
+    let e = steps-refused (length (a .masks .now)) (a .specified .now) (a .bits .now) (cubes-stop (a .settings) (a .masks .now) (a .specified .now) (a .bits .now) (s .pre .0)) _ (sym (k .ensures) ∙ c .before .formed .given .1) in
     let o = cubes-unstopped (a .settings) (a .masks .now) (a .specified .now) (a .bits .now) (a .out .now) (e .0) in
     (ap Refused (e .1) ∙ sym (ap (λ (u : CubesOutcome). u .answer) o), sym (ap (λ (u : CubesOutcome). u .buffer) o))
 
@@ -46,7 +49,7 @@ returns-2 c =
     let a = s .args in
     let k = c .before .before .before .before .before .before .before .before .stop-slice in
     let t = c .before .before .before .encode in
-    let e = steps-stop (a .settings) (a .masks .now) (a .specified .now) (a .bits .now) (s .pre .0) _ (sym (k .ensures) ∙ c .before .before .before .before .before .before .formed2 .given .1) in
+    let e = steps-stop (length (a .masks .now)) (a .specified .now) (a .bits .now) (cubes-stop (a .settings) (a .masks .now) (a .specified .now) (a .bits .now) (s .pre .0)) _ (sym (k .ensures) ∙ c .before .before .before .before .before .before .formed2 .given .1) in
     let o = cubes-stopped (a .settings) (a .masks .now) (a .specified .now) (a .bits .now) (a .out .now) _ e in
     (c .with-stop .ensures ∙ ap (stopped _) (t .ensures .0) ∙ sym (ap (λ (u : CubesOutcome). u .answer) o), t .ensures .1 ∙ sym (ap (λ (u : CubesOutcome). u .buffer) o))
 

@@ -7,7 +7,7 @@ use Rattle.register.specs.declared.Settings.{Settings}
 use Rattle.register.specs.Machine.{base}
 use Rattle.checks.specs.Order.{judged}
 use Rattle.checks.specs.Calls.{setFaults}
-use Rattle.expander.proofs.Outcomes.{refused-parts}
+use Rattle.causes.proofs.Outcome.{refused-parts}
 use Rattle.encoder.specs.Encoding.{encodeSet}
 use Rattle.encoder.proofs.Calls.{set-refused, set-well, set-outcome}
 use Rattle.encoder.proofs.encode_set.Statement.{statement}

@@ -10,9 +10,10 @@ use Rattle.covering.specs.Windows.{ok}
 use Rattle.cutting.specs.Greedy.{reach}
 use Rattle.cutting.proofs.Reach.{reach-end}
 use Rattle.window.proofs.Seeds.{ready-fewer}
-use Rattle.encoder.proofs.Starts.{set-long, part-bounds, part-slices, part-window}
+use Rattle.encoder.proofs.Starts.{part-bounds, part-slices, part-window}
 use Rattle.register.specs.Machine.{machine}
 use Rattle.slices.specs.Slices.{paired}
+use Rattle.slices.proofs.Formed.{slices-length}
 use Rattle.covering.specs.Rules.{rules}
 use Rattle.encoder.proofs.gather.Statement.{statement}
 use Rattle.encoder.proofs.gather.Tie as tie
@@ -108,7 +109,7 @@ returns c =
     let f = c .before .before .before .before .before .far in
     let w = part-window (a .settings) (a .masks .now) (a .stop) (a .specified .now) (a .bits .now) (s .pre .1 .0) (l .place) (f .result) (omega (arith, i .loop-test .taken)) (f .ensures (a .stop)) (c .before .before .reach .result) (c .before .before .reach .ensures) in
     gathering-answer (a .settings) (a .masks .now) (a .stop) (paired (a .specified .now) (a .bits .now)) (a .seeds .now) (l .place) (l .count) (l .seeds)
-    (omega (arith, set-long (a .settings) (a .masks .now) (a .stop) (a .specified .now) (a .bits .now) (s .pre .1 .0), s .pre .1 .1 .2)) (w .end ∙ omega (arith, c .if1 .taken)) (l .inv)
+    (omega (arith, slices-length (length (a .masks .now)) (a .specified .now) (a .bits .now) (s .pre .1 .0), s .pre .1 .1 .2)) (w .end ∙ omega (arith, c .if1 .taken)) (l .inv)
 
 mul-seeds : tie.Need-mul-seeds Inv-loop μ-loop
 mul-seeds c = search needs
@@ -132,7 +133,7 @@ add-place c =
     let f = c .before .before .before .before .before .before .far in
     let w = part-window (a .settings) (a .masks .now) (a .stop) (a .specified .now) (a .bits .now) (s .pre .1 .0) (l .place) (f .result) (omega (arith, i .loop-test .taken)) (f .ensures (a .stop)) (c .before .before .before .reach .result) (c .before .before .before .reach .ensures) in
     let k = w .within in
-    let n = set-long (a .settings) (a .masks .now) (a .stop) (a .specified .now) (a .bits .now) (s .pre .1 .0) in
+    let n = slices-length (length (a .masks .now)) (a .specified .now) (a .bits .now) (s .pre .1 .0) in
     let h : length (a .specified .now) ≤ 2048 = s .pre .1 .1 .1 in
     search needs
 
@@ -152,7 +153,7 @@ loop-again c =
     let r = c .before .before .before .reach in
     let w = part-window (a .settings) (a .masks .now) (a .stop) (a .specified .now) (a .bits .now) (s .pre .1 .0) (l .place) (f .result) (omega (arith, i .loop-test .taken)) (f .ensures (a .stop)) (r .result) (r .ensures) in
     let k : 0 < r .result .slices = omega (arith, c .before .if1 .left) in
-    let n = set-long (a .settings) (a .masks .now) (a .stop) (a .specified .now) (a .bits .now) (s .pre .1 .0) in
+    let n = slices-length (length (a .masks .now)) (a .specified .now) (a .bits .now) (s .pre .1 .0) in
     gathering-next (machine (a .settings) (a .masks .now)) (rules (a .settings) (a .stop)) (paired (a .specified .now) (a .bits .now)) (a .seeds .now) (l .place) (l .count) (l .seeds) (omega (arith, i .loop-test .taken)) (l .inv) (r .result .slices) (r .result .seed) k (w .end) (w .within) (w .seed k)
 
 same-length-2 : tie.Need-same-length-2 Inv-loop μ-loop
@@ -166,7 +167,7 @@ returns-2 c =
     let M = machine (a .settings) (a .masks .now) in
     let R = rules (a .settings) (a .stop) in
     let set = paired (a .specified .now) (a .bits .now) in
-    let n = set-long (a .settings) (a .masks .now) (a .stop) (a .specified .now) (a .bits .now) (s .pre .1 .0) in
+    let n = slices-length (length (a .masks .now)) (a .specified .now) (a .bits .now) (s .pre .1 .0) in
     gathering-answer (a .settings) (a .masks .now) (a .stop) set (a .seeds .now) (l .place) (l .count) (l .seeds) (omega (arith, s .pre .1 .1 .2)) (reach-end (ok M R set) (length set) (set-bounds M R set) (l .place) (omega (arith, c .loop-test .left))) (l .inv)
 
 pub gather-spec : {M : Type 1} → statement M

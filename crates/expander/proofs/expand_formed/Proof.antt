@@ -7,7 +7,8 @@ use Rattle.register.specs.Machine.{machine}
 use Rattle.covering.specs.Rules.{rules}
 use Rattle.expander.specs.Expanding.{walk}
 use Rattle.expander.specs.Code.{tally}
-use Rattle.expander.proofs.Outcomes.{outcome-parts, refused-parts, found, found-refused, found-other, found-short, found-whole}
+use Rattle.causes.proofs.Outcome.{outcome-parts, refused-parts}
+use Rattle.expander.proofs.Outcomes.{found, found-refused, found-other, found-short, found-whole}
 use Rattle.expander.proofs.expand_formed.Statement.{statement}
 use Rattle.expander.proofs.expand_formed.Tie as tie
 

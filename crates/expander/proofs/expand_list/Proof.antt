@@ -10,7 +10,8 @@ use Rattle.register.specs.Machine.{base}
 use Rattle.checks.specs.Order.{judged}
 use Rattle.checks.specs.Calls.{listFaults}
 use Rattle.expander.specs.Expanding.{expandList}
-use Rattle.expander.proofs.Outcomes.{refused-parts, call-refused, call-formed, call-ready, few-seeds}
+use Rattle.causes.proofs.Outcome.{refused-parts}
+use Rattle.expander.proofs.Outcomes.{call-refused, call-formed, call-ready, few-seeds}
 use Rattle.expander.proofs.expand_list.Statement.{statement}
 use Rattle.checks.specs.declared.Verdict.the-variants as verdict
 use Rattle.expander.proofs.expand_list.Tie as tie

@@ -2,8 +2,9 @@
 use lib.ListN.{take}
 use borrow.Author.Needs.{needs}
 use Rattle.slices.specs.Slices.{paired}
+use Rattle.slices.proofs.Formed.{slices-length}
 use Rattle.window.specs.Code.{allStates}
-use Rattle.window.proofs.Fitting.{long-enough, allowed-closed, allowed-open}
+use Rattle.window.proofs.Fitting.{allowed-closed, allowed-open}
 use Rattle.window.proofs.allow.Statement.{statement}
 use Rattle.window.proofs.allow.Tie as tie
 
@@ -22,7 +23,7 @@ returns c =
     let a = s .args in
     let f = c .before .before .before .before .before .before .before .before .fit in
     let m = c .before .before .meet-row in
-    allowed-closed (a .chains) (a .table .now) (a .stop) (paired (a .specified .now) (a .bits .now)) (allStates (a .cells)) (take (a .cells) (a .vectors .now)) (f .result .space) (take (f .result .space .free) (f .last .0)) (m .result) (take (m .result .free) (m .last .0)) (a .closing) _ (c .before .before .before .before .if1 .taken) (long-enough (a .chains) (a .specified .now) (a .bits .now) (s .pre .0 .0)) (f .ensures .whole) (m .ensures)
+    allowed-closed (a .chains) (a .table .now) (a .stop) (paired (a .specified .now) (a .bits .now)) (allStates (a .cells)) (take (a .cells) (a .vectors .now)) (f .result .space) (take (f .result .space .free) (f .last .0)) (m .result) (take (m .result .free) (m .last .0)) (a .closing) _ (c .before .before .before .before .if1 .taken) (slices-length (a .chains) (a .specified .now) (a .bits .now) (s .pre .0 .0)) (f .ensures .whole) (m .ensures)
 
 same-length-2 : tie.Need-same-length-2
 same-length-2 c = search needs

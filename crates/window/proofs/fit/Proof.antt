@@ -1,15 +1,15 @@
 -- `window::fit` meets its contract. Assumes nothing.
 use mathlib.Core.Path.{_≡_, refl, _∙_}
-use Prim.Native.Nat.{_-_, _≤_, _<_}
+use Prim.Native.Nat.{_-_, _≤_}
 use native.Mathlib.Omega.{arith}
 use lib.ListN.{length, take}
 use borrow.Author.Needs.{needs}
 use borrow.Author.Tests.{not-true}
 use Rattle.slices.specs.Slices.{paired}
-use Rattle.slices.proofs.Causes.{sliceAt, slices-equal}
+use Rattle.slices.proofs.Causes.{slices-equal}
 use Rattle.slices.proofs.Formed.{slices-each}
 use Rattle.search.proofs.Reading.{row-fits}
-use Rattle.window.proofs.Fitting.{Fitted, fitted-start, fitted-next, fitted-stop, fitted-end, long-enough, slice-here}
+use Rattle.window.proofs.Fitting.{Fitted, fitted-start, fitted-next, fitted-stop, fitted-end}
 use Rattle.window.proofs.fit.Statement.{statement}
 use Rattle.window.proofs.fit.Tie as tie
 
@@ -63,13 +63,10 @@ returns c =
     let a = s .args in
     let l = i .before .loop in
     let m = c .before .before .before .before .meet-row in
-    let w = paired (a .specified .now) (a .bits .now) in
-    let x = sliceAt (a .specified .now) (a .bits .now) (l .slice) in
     let us = take (a .space .free) (a .vectors .now) in
-    let h : l .slice < length w = omega (arith, long-enough (a .chains) (a .specified .now) (a .bits .now) (s .pre .0), i .loop-test .taken) in
-    let e = slice-here (a .chains) (a .specified .now) (a .bits .now) (s .pre .0) (l .slice) x (i .loop-test .taken) in
-    let f = fitted-next (a .chains) (a .table .now) w (a .space) us (l .slice) x (l .kept) (take (l .kept .free) (l .vectors)) (m .result) (take (m .result .free) (m .last .0)) h (l .inv .2) (rw e (m .ensures)) in
-    fitted-stop (a .chains) (a .table .now) w (a .space) us (l .slice) (m .result) (take (m .result .free) (m .last .0)) h f (not-true (m .result .some) (c .if1 .taken))
+    fitted-stop (a .chains) (a .table .now) (a .specified .now) (a .bits .now) (s .pre .0) (a .space) us (l .slice) (m .result) _ (i .loop-test .taken)
+    (fitted-next (a .chains) (a .table .now) (a .specified .now) (a .bits .now) (s .pre .0) (a .space) us (l .slice) (l .kept) _ (m .result) _ (i .loop-test .taken) (l .inv .2) (m .ensures))
+    (not-true (m .result .some) (c .if1 .taken))
 
 add-slice : tie.Need-add-slice Inv-loop μ-loop
 add-slice c = search needs
@@ -83,15 +80,10 @@ loop-again c =
     let s = i .before .before .before .before .before .before in
     let a = s .args in
     let l = i .before .loop in
-    let m = c .before .before .before .before .meet-row in
-    let w = paired (a .specified .now) (a .bits .now) in
-    let x = sliceAt (a .specified .now) (a .bits .now) (l .slice) in
-    let us = take (a .space .free) (a .vectors .now) in
-    let h : l .slice < length w = omega (arith, long-enough (a .chains) (a .specified .now) (a .bits .now) (s .pre .0), i .loop-test .taken) in
-    let e = slice-here (a .chains) (a .specified .now) (a .bits .now) (s .pre .0) (l .slice) x (i .loop-test .taken) in (
+    let m = c .before .before .before .before .meet-row in (
       omega (arith, i .loop-test .taken),
       m .kept .0 ∙ l .inv .1,
-      fitted-next (a .chains) (a .table .now) w (a .space) us (l .slice) x (l .kept) (take (l .kept .free) (l .vectors)) (m .result) (take (m .result .free) (m .last .0)) h (l .inv .2) (rw e (m .ensures)),
+      fitted-next (a .chains) (a .table .now) (a .specified .now) (a .bits .now) (s .pre .0) (a .space) (take (a .space .free) (a .vectors .now)) (l .slice) (l .kept) _ (m .result) _ (i .loop-test .taken) (l .inv .2) (m .ensures),
     )
 
 same-length-2 : tie.Need-same-length-2 Inv-loop μ-loop
@@ -102,8 +94,7 @@ returns-2 c =
     let s = c .before .before .before .before .before .before in
     let a = s .args in
     let l = c .before .loop in
-    let n = long-enough (a .chains) (a .specified .now) (a .bits .now) (s .pre .0) in
-    fitted-end (a .chains) (a .table .now) (paired (a .specified .now) (a .bits .now)) (a .space) (take (a .space .free) (a .vectors .now)) (l .slice) (l .kept) (take (l .kept .free) (l .vectors)) (omega (arith, l .inv .0)) (omega arith) (l .inv .2)
+    fitted-end (a .chains) (a .table .now) (a .specified .now) (a .bits .now) (s .pre .0) (a .space) (take (a .space .free) (a .vectors .now)) (l .slice) (l .kept) _ (l .inv .0) (omega arith) (l .inv .2)
 
 pub fit-spec : {M : Type 1} → statement M
 fit-spec =

@@ -7,12 +7,11 @@ use lib.ListN.{length, take}
 use borrow.Author.Tests.{not-true, not-false}
 use borrow.Author.Needs.{needs}
 use Rattle.slices.specs.Slices.{paired}
-use Rattle.slices.proofs.Formed.{slice-formed, stop-slice, slices-all}
+use Rattle.slices.proofs.Formed.{slice-formed, stop-slice, slices-length, slices-all}
 use Rattle.table.specs.Chosen.{chosen}
 use Rattle.search.specs.Search.{foundOf, lowestClear}
 use Rattle.search.specs.declared.Pattern.{Pattern}
 use Rattle.window.specs.Code.{allowed, allStates, Narrows}
-use Rattle.window.proofs.Fitting.{long-enough}
 use Rattle.window.proofs.Seeds.{unitsOf, states-rising, seed-none, seed-lowest}
 use Rattle.register.proofs.Causes.{cells-within}
 use Rattle.window.proofs.lowest_covering.Statement.{statement}
@@ -35,7 +34,7 @@ returns c =
     let a = s .args in
     let o = c .before .before .before .allow in
     let w = paired (a .specified .now) (a .bits .now) in
-    let n = long-enough (length (a .masks .now)) (a .specified .now) (a .bits .now) (s .pre .1) in
+    let n = slices-length (length (a .masks .now)) (a .specified .now) (a .bits .now) (s .pre .1) in
     let k : Narrows (allowed (length (a .masks .now)) (a .table .now) (a .stop) (a .closing) w) (allStates (a .settings .cells)) (unitsOf (a .settings .cells)) (o .result) (take (o .result .free) (o .last .0)) = rw (c .before .before .before .before .before .units .ensures) at (o .ensures) in
     sym (ap foundOf (seed-none (a .settings) (a .masks .now) (a .stop) (a .pattern) (a .table .now) (a .clauses .now) (suc (length (a .specified .now))) w (s .pre .0) (omega arith) (slices-all (length (a .masks .now)) (a .specified .now) (a .bits .now) (s .pre .1)) (a .closing) (o .result) (take (o .result .free) (o .last .0)) k (not-true (o .result .some) (c .if1 .taken))))
 
@@ -57,7 +56,7 @@ returns-2 c =
     let a = s .args in
     let o = c .before .before .before .before .allow in
     let w = paired (a .specified .now) (a .bits .now) in
-    let n = long-enough (length (a .masks .now)) (a .specified .now) (a .bits .now) (s .pre .1) in
+    let n = slices-length (length (a .masks .now)) (a .specified .now) (a .bits .now) (s .pre .1) in
     let k : Narrows (allowed (length (a .masks .now)) (a .table .now) (a .stop) (a .closing) w) (allStates (a .settings .cells)) (unitsOf (a .settings .cells)) (o .result) (take (o .result .free) (o .last .0)) = rw (c .before .before .before .before .before .before .units .ensures) at (o .ensures) in
     c .lowest-clear .ensures
     ∙ ap (λ (m : ℕ). lowestClear (a .pattern) (a .clauses .now) m (o .result .lowest) (take (o .result .free) (o .last .0))) (sym n)

@@ -13,10 +13,10 @@ use Rattle.register.specs.Machine.{machine}
 use Rattle.register.proofs.Causes.{cells-within}
 use Rattle.slices.specs.Slices.{paired}
 use Rattle.slices.proofs.Causes.{slices-equal}
-use Rattle.slices.proofs.Formed.{slices-take}
-use Rattle.window.proofs.Fitting.{long-enough}
+use Rattle.slices.proofs.Formed.{slices-length, slices-take}
+use Rattle.search.proofs.Finding.{state-some, nothing-none}
 use Rattle.window.proofs.Seeds.{ready-fewer}
-use Rattle.window.proofs.Reaching.{state-some, nothing-none, Passed, passed-start, passed-next, tried, reach-found, reach-none}
+use Rattle.window.proofs.Reaching.{Passed, passed-start, passed-next, tried, reach-found, reach-none}
 use Rattle.window.proofs.reach.Statement.{statement}
 use Rattle.window.proofs.reach.Tie as tie
 
@@ -45,14 +45,14 @@ slice-aggregate-lowest-covering c =
     let s = c .before .before .before .before .before .before .before .before .before .before in
     let a = s .args in
     let l = c .before .before .before .loop in
-    sym (length-take-le (l .slices) (a .specified .now) (omega (arith, l .inv .within, long-enough (length (a .masks .now)) (a .specified .now) (a .bits .now) (s .pre .1))))
+    sym (length-take-le (l .slices) (a .specified .now) (omega (arith, l .inv .within, slices-length (length (a .masks .now)) (a .specified .now) (a .bits .now) (s .pre .1))))
 
 slice-aggregate-lowest-covering-2 : tie.Need-slice-aggregate-lowest-covering-2 Inv-loop μ-loop
 slice-aggregate-lowest-covering-2 c =
     let s = c .before .before .before .before .before .before .before .before .before .before .before in
     let a = s .args in
     let l = c .before .before .before .before .loop in
-    sym (length-take-le (l .slices) (a .bits .now) (omega (arith, l .inv .within, long-enough (length (a .masks .now)) (a .specified .now) (a .bits .now) (s .pre .1), slices-equal (length (a .masks .now)) (a .specified .now) (a .bits .now) (s .pre .1))))
+    sym (length-take-le (l .slices) (a .bits .now) (omega (arith, l .inv .within, slices-length (length (a .masks .now)) (a .specified .now) (a .bits .now) (s .pre .1), slices-equal (length (a .masks .now)) (a .specified .now) (a .bits .now) (s .pre .1))))
 
 lowest-covering-requires : tie.Need-lowest-covering-requires Inv-loop μ-loop
 lowest-covering-requires c κs =

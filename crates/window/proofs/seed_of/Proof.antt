@@ -5,7 +5,9 @@ use native.Mathlib.Omega.{arith}
 use native.Mathlib.Numerals.{add-one}
 use lib.ListN.{length}
 use borrow.Author.Needs.{needs}
-use Rattle.window.proofs.Calls.{table-room, ready-tables, window-formed}
+use Rattle.checks.proofs.Lengths.{window-within}
+use Rattle.checks.proofs.Stopped.{window-formed}
+use Rattle.window.proofs.Calls.{table-room, ready-tables}
 use Rattle.window.proofs.seed_of.Statement.{statement}
 use Rattle.window.proofs.seed_of.Tie as tie
 
@@ -20,7 +22,7 @@ fill-requires c κs =
     let s = c .before .before .before .before in
     let a = s .args in
     let w = window-formed (a .settings) (a .masks .now) (a .stop) (a .specified .now) (a .bits .now) (s .pre .0) in
-    table-room (length (a .specified .now) + 1) (length (a .masks .now)) (omega (arith, w .long, s .pre .1)) (w .few)
+    table-room (length (a .specified .now) + 1) (length (a .masks .now)) (omega (arith, window-within (a .settings .limit) (length (a .specified .now)) (w .lengths) .1, s .pre .1)) (w .few)
 
 slice-aggregate-fill-clauses : tie.Need-slice-aggregate-fill-clauses
 slice-aggregate-fill-clauses c = search needs
@@ -30,7 +32,7 @@ fill-clauses-requires c κs =
     let s = c .before .before .before .before .before .before .before in
     let a = s .args in
     let w = window-formed (a .settings) (a .masks .now) (a .stop) (a .specified .now) (a .bits .now) (s .pre .0) in
-    (w .few, table-room (length (a .specified .now) + 1) (length (a .masks .now)) (omega (arith, w .long, s .pre .1)) (w .few))
+    (w .few, table-room (length (a .specified .now) + 1) (length (a .masks .now)) (omega (arith, window-within (a .settings .limit) (length (a .specified .now)) (w .lengths) .1, s .pre .1)) (w .few))
 
 slice-aggregate-lowest-covering : tie.Need-slice-aggregate-lowest-covering
 slice-aggregate-lowest-covering c = search needs
