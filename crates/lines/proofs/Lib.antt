@@ -1,0 +1,4 @@
+-- The laws of what a line says, and the proofs of the functions.
+pub mod Numerals
+pub mod Rows
+pub mod Values
