@@ -1,6 +1,6 @@
 -- The slice that characters say, from the last character to the first (`rowOf`): the start, one character more in front, a byte that is none, the end; and that its numbers stay within a word.
 use mathlib.Core.Bool.{Bool, true, false}
-use mathlib.Core.Path.{_≡_, refl, ap, _∙_}
+use mathlib.Core.Path.{_≡_, ap}
 use mathlib.Core.List.{List, [], _∷_}
 use Prim.Native.Nat.{ℕ, zero, suc, _+_, _*_, _-_, _^_, _<_, _≤_}
 use native.Mathlib.Omega.{arith}
@@ -8,7 +8,6 @@ use lib.Dec.{eqb}
 use lib.ListN.{length, getD, drop}
 use lib.Pow.{pow-mono}
 use lib.Seq.{drop-cons, drop-length}
-use Rattle.slices.specs.declared.TestSlice.{TestSlice}
 use Rattle.lines.specs.Characters.{isCharacter, specifiedAt, bitAt, inFront, rowOf}
 use Rattle.lines.specs.declared.Row.{Row}
 use Rattle.lines.specs.declared.Row.the-variants.{Slice, Nothing}

@@ -5,13 +5,14 @@ use lines::Line;
 use lines::LineCause;
 ghost use mathlib.Core.Path.{_≡_};
 ghost use Prim.Native.Nat.{_+_, _≤_, _<_, _^_};
-ghost use lib.ListN.{length, drop};
+ghost use lib.ListN.{length, drop, set};
 ghost use lib.Seq.{sets};
-ghost use Rattle.keys.specs.Keys.{same as sameOf};
+ghost use Rattle.keys.specs.Keys.{rank as rankOf, same as sameOf};
+ghost use Rattle.keys.specs.declared.Key.the-variants as key;
 ghost use Rattle.reading.specs.Text.{span};
 ghost use Rattle.reading.specs.Order.{isRow, outOfRange, rangeCause, tested as testedOf, ranged as rangedOf, saying as sayingOf, afterChains, afterMask, onTo, afterRow, moved as movedOf};
 ghost use Rattle.reading.specs.Reading.{refusedAt, takenOf, refusalOfLine, endOf, readingOf};
-ghost use Rattle.reading.specs.Said.{masksOf, rowsOf, rowBitsOf, storedIf, keptAll};
+ghost use Rattle.reading.specs.Said.{keyIs, rowIs, masksOf, rowsOf, rowBitsOf, storedIf, keptAll};
 
 // The kinds of text that are read.
 pub enum Kind {
@@ -106,7 +107,8 @@ fn range_cause(key: Key) -> LineCause
 fn tested(place: Place, key: Key, v: u64, said: Line) -> Line
     ensures { λ r. ⌜ r ≡ testedOf place key v said ⌝ }
 {
-    if !same(key, place.due) {
+    let due = place.due;
+    if !same(key, due) {
         return Line::Refused(LineCause::Form);
     }
     if out_of_range(place, key, v) {
@@ -228,7 +230,7 @@ fn refused_at(cause: LineCause, n: usize) -> Refusal
 }
 
 // A line's entry, or nothing where it is refused.
-fn taken(line: Line) -> Taken
+fn take_apart(line: Line) -> Taken
     ensures { λ r. ⌜ r ≡ takenOf line ⌝ }
 {
     match line {
@@ -261,7 +263,8 @@ fn refusal_of_line(line: Line, n: usize) -> Refusal
 fn end_of(place: Place, n: usize) -> Scanned
     ensures { λ r. ⌜ r ≡ endOf place n ⌝ }
 {
-    if is_row(place.due) {
+    let due = place.due;
+    if is_row(due) {
         Scanned::Whole(place)
     } else {
         Scanned::Refused(refused_at(LineCause::Form, n))
@@ -292,6 +295,24 @@ fn line_end(text: &[u8], from: usize) -> usize
         end += 1;
     }
     end
+}
+
+// Keeps the numbers of a line: by the rank of its key, of a chain line among the masks, of a row among the rows.
+fn keep(entry: Entry, place: Place, heads: &mut [u64], tails: &mut [u64], masks: &mut [u64], firsts: &mut [u64], seconds: &mut [u64])
+    ensures heads { λ _. ⌜ now (heads .exit) ≡ set (now (heads .entry)) (rankOf (entry .key)) (entry .first) ⌝ }
+    ensures tails { λ _. ⌜ now (tails .exit) ≡ set (now (tails .entry)) (rankOf (entry .key)) (entry .second) ⌝ }
+    ensures masks { λ _. ⌜ now (masks .exit) ≡ storedIf (keyIs key.Chain entry) (now (masks .entry)) (place .masks) (entry .first) ⌝ }
+    ensures firsts { λ _. ⌜ now (firsts .exit) ≡ storedIf (rowIs entry) (now (firsts .entry)) (place .rows) (entry .first) ⌝ }
+    ensures seconds { λ _. ⌜ now (seconds .exit) ≡ storedIf (rowIs entry) (now (seconds .entry)) (place .rows) (entry .second) ⌝ }
+{
+    let key = entry.key;
+    let rank = keys::rank(key);
+    store(true, heads, rank, entry.first);
+    store(true, tails, rank, entry.second);
+    store(same(key, Key::Chain), masks, place.masks, entry.first);
+    let row = is_row(key);
+    store(row, firsts, place.rows, entry.first);
+    store(row, seconds, place.rows, entry.second);
 }
 
 // Reads a text. The numbers of its lines go into the lists, up to the first refused line: by the rank of their key into heads and tails, those of chain lines into masks, those of rows into firsts and seconds.
@@ -326,15 +347,12 @@ pub fn scan(
             return Scanned::Refused(refused_at(LineCause::Form, n));
         }
         let line = saying(place, &text[at..end]);
-        let Taken::Said(entry) = taken(line) else {
+        let Taken::Said(entry) = take_apart(line) else {
             return Scanned::Refused(refusal_of_line(line, n));
         };
-        store(true, heads, keys::rank(entry.key), entry.first);
-        store(true, tails, keys::rank(entry.key), entry.second);
-        store(same(entry.key, Key::Chain), masks, place.masks, entry.first);
-        store(is_row(entry.key), firsts, place.rows, entry.first);
-        store(is_row(entry.key), seconds, place.rows, entry.second);
-        place = moved(kind, place, entry.key, entry.first);
+        keep(entry, place, heads, tails, masks, firsts, seconds);
+        let key = entry.key;
+        place = moved(kind, place, key, entry.first);
         at = end + 1;
         n += 1;
     }

@@ -2,7 +2,6 @@ use borrow.Author.Needs.{needs}
 use Rattle.lines.proofs.characters.Statement.{statement}
 use Rattle.lines.proofs.characters.Tie as tie
 use mathlib.Core.Path.{sym, ap, _∙_}
-use native.Mathlib.Omega.{arith}
 use Rattle.lines.specs.Form.{sliced}
 use Rattle.lines.proofs.Values.{characters-many, characters-other, characters-right}
 

@@ -1,0 +1,5 @@
+-- The laws of reading, and the proofs of the functions.
+pub mod Splitting
+pub mod Ranging
+pub mod Keeping
+pub mod Scanning
