@@ -1,2 +1,3 @@
 -- The laws of names, and the proofs of the functions.
 pub mod Begins
+pub mod Same

@@ -3,3 +3,7 @@ pub mod Splitting
 pub mod Ranging
 pub mod Keeping
 pub mod Scanning
+pub mod Accepting
+pub mod Counting
+pub mod Heads
+pub mod Enough

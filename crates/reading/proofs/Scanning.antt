@@ -65,11 +65,11 @@ module _ (kind : Kind) (s : List ℕ) (l₀ : Lists) where
       module _ (o : e < length s) (said : Line) (d : said ≡ saying p (take (e - at) (drop at s))) where
         pub left-refused : takenOf said ≡ Nothing → Ends kind s l₀ l (Refused (refusalOfLine said n))
         unfolding reading
-        left-refused t = left-stops _ (rw (split-line-at s at e q o, ← d, t, reading, ← d))
+        left-refused t = left-stops _ (rw (split-line-at s at e q o, ← d, t))
 
         left-told : (f : Entry) → takenOf said ≡ Said f → reading kind p n (split (drop at s)) ≡ told f (reading kind (moved kind p (f .key) (f .first)) (n + 1) (split (drop (e + 1) s)))
         unfolding reading
-        left-told f t = rw (split-line-at s at e q o, ← d, t, reading)
+        left-told f t = rw (split-line-at s at e q o, ← d, t)
 
         pub left-step : (f : Entry) → takenOf said ≡ Said f → Left kind s l₀ (kept f p l) (moved kind p (f .key) (f .first)) (n + 1) (e + 1)
         left-step f t =

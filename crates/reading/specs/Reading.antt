@@ -6,6 +6,7 @@
 --     Reading                the entries of the lines up to the first refused one, and the end: the place there, or the refusal
 --     stops e                no line more, and the end e
 --     told e r               the reading r with an entry in front
+--     onward a next refused  an entry in front of the reading that is next, or the refusal
 --     endOf p n              the end of a text that ends where the line n would stand
 --     reading kind p n t     the reading of the text t that stands at the place p, from line n on
 --     readingOf kind s       the reading of the bytes s
@@ -62,6 +63,10 @@ stops e = record { entries = []; end = e }
 abbrev pub told : Entry → Reading → Reading
 told e r = record { entries = e ∷ r .entries; end = r .end }
 
+abbrev pub onward : Taken → (Entry → Reading) → Scanned → Reading
+onward (Said e) next refused = told e (next e)
+onward Nothing next refused = stops refused
+
 -- Text that ends early is refused at the line after the last.
 unfoldable pub endOf : Place → ℕ → Scanned
 endOf p n = elim (mayEnd p) [ true ↦ Whole p | false ↦ Refused (refusedAt lineCause.Form n) ]
@@ -70,10 +75,7 @@ endOf p n = elim (mayEnd p) [ true ↦ Whole p | false ↦ Refused (refusedAt li
 unfoldable pub reading : Kind → Place → ℕ → Text → Reading
 reading kind p n (rest []) = stops (endOf p n)
 reading kind p n (rest (b ∷ o)) = stops (Refused (refusedAt lineCause.Form n))
-reading kind p n (line l t) = elim (takenOf (saying p l)) [
-  | Said e ↦ told e (reading kind (moved kind p (e .key) (e .first)) (n + 1) t)
-  | Nothing ↦ stops (Refused (refusalOfLine (saying p l) n))
-]
+reading kind p n (line l t) = onward (takenOf (saying p l)) (λ e. reading kind (moved kind p (e .key) (e .first)) (n + 1) t) (Refused (refusalOfLine (saying p l) n))
 
 unfoldable pub readingOf : Kind → List ℕ → Reading
 readingOf kind s = reading kind start 1 (split s)
