@@ -27,18 +27,22 @@ use Rattle.covering.specs.Windows.{before, far, placed, closes, seedAt, ok}
 use Rattle.expander.specs.Run.{slicesOf, firstStop, ending, delivers}
 use Rattle.expander.specs.Expanding.{after, walk, totalled, expanding, expandList}
 use Rattle.encoder.specs.Encoding.{seedsOf, planned, encoding, stopped, withStop, cubesEncoding, encodeCubes}
-use Rattle.text.specs.Bytes.{bytes, starts, split}
-use Rattle.text.specs.Numbers.{worth, digits, leadingZero, number, glyph, lastDigits, numeral}
-use Rattle.text.specs.Characters.{isCharacter, specifiedAt, bitAt, inFront, sliceOf, character, characters}
-use Rattle.text.specs.Keys.{name, keyOf, rank, same, notation, longest}
-use Rattle.text.specs.Line.{numbered, sliced, valued, formed}
-use Rattle.text.specs.Order.{inOrder, outOfRange, rangeCause, tested, saying, afterChains, moved, mayEnd}
-use Rattle.text.specs.Reading.{causeOf, refusedAt, reading, readingOf}
-use Rattle.text.specs.Said.{numbersFor, slicesFor, lastOr, numberFor, sliceFor, settingsOf}
-use Rattle.text.specs.Writing.{numberLine, numberLines, sliceLine, sliceLines, listText, refusedText}
-use Rattle.text.specs.Programs.{lent, encoded, expanded, replied, encodeReply, expandReply, printed, encodeText, expandText, TextOutcome, answered, called, encodeCall, expandCall}
+use Rattle.keys.specs.Bytes.{bytes, starts}
+use Rattle.keys.specs.Keys.{name, keyOf, rank, same, notation, longest}
+use Rattle.lines.specs.Numbers.{worth, digits, leadingZero, number}
+use Rattle.lines.specs.Characters.{isCharacter, specifiedAt, bitAt, inFront, rowOf}
+use Rattle.lines.specs.Form.{numbered, sliced, characters, valued, keyed, named, formed}
+use Rattle.reading.specs.Text.{split}
+use Rattle.reading.specs.Order.{isRow, inOrder, outOfRange, rangeCause, tested, ranged, saying, afterChains, afterMask, moved, mayEnd}
+use Rattle.reading.specs.Reading.{causeOf, refusedAt, takenOf, refusalOfLine, endOf, reading, readingOf}
+use Rattle.reading.specs.Said.{picked, lastOr}
+use Rattle.writing.specs.Numerals.{glyph, lastDigits, numeral, character}
+use Rattle.writing.specs.Numerals.{characters as charactersOf}
+use Rattle.writing.specs.Writing.{numberLine, numberLines, sliceLine, sliceLines, headText, listText, refusedText}
+use Rattle.text.specs.Replies.{listReply, slicesReply, encoded, expanded, sheetReply, seedListReply, concluded, encodeReply, expandReply, printed, encodeText, expandText}
+use Rattle.text.specs.Calls.{TextOutcome, answered, called, encodeCall, expandCall}
 use Rattle.text.specs.declared.Answer.{Answer}
-use Rattle.text.specs.declared.Answer.the-variants.{Bytes, Refused}
+use Rattle.text.specs.declared.Answer.the-variants.{Text, Refused}
 
 pub data Question : Type 0 where
   encode : List ℕ → Question
@@ -148,7 +152,7 @@ table =
     -- every line is read before that
     ∷ record { asked = expand (R "stop=0x\nslices=4\nseed=8\nseed=g\n"); told = prints (bytes "refused=13\nat=9\n") }
     -- the sheet's list in a buffer with one byte more, and with one byte less
-    ∷ record { asked = encode-into 72 (R "depth=2\nslice=10\nslice=x1\nslice=1x\nslice=1x\n"); told = leaves (Bytes 71) (bytes "cells=3\ntaps=6\nchains=2\nchain=1\nchain=4\nstop=0x\nslices=4\nseed=3\nseed=3\n" ++ old 1) }
+    ∷ record { asked = encode-into 72 (R "depth=2\nslice=10\nslice=x1\nslice=1x\nslice=1x\n"); told = leaves (Text 71 2) (bytes "cells=3\ntaps=6\nchains=2\nchain=1\nchain=4\nstop=0x\nslices=4\nseed=3\nseed=3\n" ++ old 1) }
     ∷ record { asked = encode-into 70 (R "depth=2\nslice=10\nslice=x1\nslice=1x\nslice=1x\n"); told = leaves (Refused (record { number = 9; value = 71 })) (old 70) }
     -- a refused text leaves the buffer as it was
     ∷ record { asked = expand-into 40 (R "stop=xx\n"); told = leaves (Refused (record { number = 5; value = 6 })) (old 40) }
@@ -163,5 +167,5 @@ tolds [] = []
 tolds (r ∷ rs) = r .told ∷ tolds rs
 
 pub worked : answers table ≡ tolds table
-unfolding answers tolds answer of-call ones onesIn within any leastBelow lastBelow digit odd beyond refuse fill step badRegister slice badCount badMask badChains agrees shows paired badSlice badSlices badStop badSet badCubes badList tests firstOf judged cubesFaults listFaults reach hop ends greedy filter count better choice settle keep setBy advance stage ended stopFor fits quiet covers seedOf before far placed closes seedAt ok slicesOf firstStop ending delivers after walk totalled expanding expandList seedsOf planned encoding stopped withStop cubesEncoding encodeCubes starts split worth digits leadingZero number glyph lastDigits numeral isCharacter specifiedAt bitAt inFront sliceOf character characters name keyOf rank same notation longest numbered sliced valued formed inOrder outOfRange rangeCause tested saying afterChains moved mayEnd causeOf refusedAt reading readingOf numbersFor slicesFor lastOr numberFor sliceFor settingsOf numberLine numberLines sliceLine sliceLines listText refusedText lent encoded expanded replied encodeReply expandReply printed encodeText expandText answered called encodeCall expandCall
+unfolding answers tolds answer of-call ones onesIn within any leastBelow lastBelow digit odd beyond refuse fill step badRegister slice badCount badMask badChains agrees shows paired badSlice badSlices badStop badSet badCubes badList tests firstOf judged cubesFaults listFaults reach hop ends greedy filter count better choice settle keep setBy advance stage ended stopFor fits quiet covers seedOf before far placed closes seedAt ok slicesOf firstStop ending delivers after walk totalled expanding expandList seedsOf planned encoding stopped withStop cubesEncoding encodeCubes starts name keyOf rank same notation longest worth digits leadingZero number isCharacter specifiedAt bitAt inFront rowOf numbered sliced characters valued keyed named formed split isRow inOrder outOfRange rangeCause tested ranged saying afterChains afterMask moved mayEnd causeOf refusedAt takenOf refusalOfLine endOf reading readingOf picked lastOr glyph lastDigits numeral character charactersOf numberLine numberLines sliceLine sliceLines headText listText refusedText listReply slicesReply encoded expanded sheetReply seedListReply concluded encodeReply expandReply printed encodeText expandText answered called encodeCall expandCall
 worked = refl

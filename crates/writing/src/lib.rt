@@ -6,12 +6,13 @@ use causes::Written;
 use slices::TestSlice;
 ghost use mathlib.Core.Path.{_≡_};
 ghost use mathlib.Core.List.{[], _∷_};
-ghost use Prim.Native.Nat.{_+_, _≤_, _<_, _^_};
+ghost use Prim.Native.Nat.{_+_, _-_, _≤_, _<_, _^_};
 ghost use lib.ListN.{length, drop};
 ghost use lib.Seq.{sets};
 ghost use Rattle.causes.specs.Outcome.{fill};
 ghost use Rattle.register.specs.Machine.{base as baseOf};
 ghost use Rattle.writing.specs.Numerals.{glyph as glyphOf, numeral as numeralOf, character as characterOf, characters as charactersOf};
+ghost use Rattle.writing.specs.Storing.{Stored};
 ghost use Rattle.writing.specs.Writing.{numberLine, numberLines, sliceLine, sliceLines, headText, listText, refusedText};
 
 // The byte of a digit.
@@ -51,8 +52,7 @@ fn put_byte(out: &mut [u8], at: usize, b: u8)
 // Writes bytes.
 fn put(out: &mut [u8], at: usize, part: &[u8]) -> usize
     requires { ⌜ at + length (now part) < 2 ^ 64 ⌝ }
-    ensures place { λ r. ⌜ r ≡ at + length (now (part .entry)) ⌝ }
-    ensures bytes { λ _. ⌜ now (out .exit) ≡ sets (now (out .entry)) at (now (part .entry)) ⌝ }
+    ensures { λ r. ⌜ Stored (now (out .entry)) at (now (part .entry)) (now (out .exit)) r ⌝ }
 {
     let mut i = 0;
     while i < part.len() {
@@ -65,8 +65,7 @@ fn put(out: &mut [u8], at: usize, part: &[u8]) -> usize
 // Writes a number.
 fn put_number(out: &mut [u8], at: usize, base: u64, n: u64) -> usize
     requires { ⌜ (10 ≤ base) × (base ≤ 16) × (at + length (numeralOf base n) < 2 ^ 64) ⌝ }
-    ensures place { λ r. ⌜ r ≡ at + length (numeralOf base n) ⌝ }
-    ensures bytes { λ _. ⌜ now (out .exit) ≡ sets (now (out .entry)) at (numeralOf base n) ⌝ }
+    ensures { λ r. ⌜ Stored (now (out .entry)) at (numeralOf base n) (now (out .exit)) r ⌝ }
 {
     let mut digits = [0u8; 20];
     let i = numeral(base, n, &mut digits);
@@ -76,8 +75,7 @@ fn put_number(out: &mut [u8], at: usize, base: u64, n: u64) -> usize
 // Writes a line with a number behind its key.
 fn put_number_line(out: &mut [u8], at: usize, base: u64, key: &[u8], n: u64) -> usize
     requires { ⌜ (10 ≤ base) × (base ≤ 16) × (at + length (numberLine base (now key) n) < 2 ^ 64) ⌝ }
-    ensures place { λ r. ⌜ r ≡ at + length (numberLine base (now (key .entry)) n) ⌝ }
-    ensures bytes { λ _. ⌜ now (out .exit) ≡ sets (now (out .entry)) at (numberLine base (now (key .entry)) n) ⌝ }
+    ensures { λ r. ⌜ Stored (now (out .entry)) at (numberLine base (now (key .entry)) n) (now (out .exit)) r ⌝ }
 {
     let value = put(out, at, key);
     let end = put_number(out, value, base, n);
@@ -87,8 +85,7 @@ fn put_number_line(out: &mut [u8], at: usize, base: u64, key: &[u8], n: u64) -> 
 // Writes such a line for each number.
 fn put_number_lines(out: &mut [u8], at: usize, base: u64, key: &[u8], numbers: &[u64]) -> usize
     requires { ⌜ (10 ≤ base) × (base ≤ 16) × (at + length (numberLines base (now key) (now numbers)) < 2 ^ 64) ⌝ }
-    ensures place { λ r. ⌜ r ≡ at + length (numberLines base (now (key .entry)) (now (numbers .entry))) ⌝ }
-    ensures bytes { λ _. ⌜ now (out .exit) ≡ sets (now (out .entry)) at (numberLines base (now (key .entry)) (now (numbers .entry))) ⌝ }
+    ensures { λ r. ⌜ Stored (now (out .entry)) at (numberLines base (now (key .entry)) (now (numbers .entry))) (now (out .exit)) r ⌝ }
 {
     let mut place = at;
     let mut i = 0;
@@ -110,8 +107,7 @@ fn character(specified: u64, bit: u64) -> u8
 // Writes the characters of a slice.
 fn put_characters(out: &mut [u8], at: usize, chains: usize, slice: TestSlice) -> usize
     requires { ⌜ at + chains < 2 ^ 64 ⌝ }
-    ensures place { λ r. ⌜ r ≡ at + chains ⌝ }
-    ensures bytes { λ _. ⌜ now (out .exit) ≡ sets (now (out .entry)) at (charactersOf chains slice) ⌝ }
+    ensures { λ r. ⌜ Stored (now (out .entry)) at (charactersOf chains slice) (now (out .exit)) r ⌝ }
 {
     let mut specified = slice.specified;
     let mut bits = slice.bits;
@@ -128,8 +124,7 @@ fn put_characters(out: &mut [u8], at: usize, chains: usize, slice: TestSlice) ->
 // Writes a line with a slice behind its key.
 fn put_slice_line(out: &mut [u8], at: usize, key: &[u8], chains: usize, slice: TestSlice) -> usize
     requires { ⌜ at + length (sliceLine chains (now key) slice) < 2 ^ 64 ⌝ }
-    ensures place { λ r. ⌜ r ≡ at + length (sliceLine chains (now (key .entry)) slice) ⌝ }
-    ensures bytes { λ _. ⌜ now (out .exit) ≡ sets (now (out .entry)) at (sliceLine chains (now (key .entry)) slice) ⌝ }
+    ensures { λ r. ⌜ Stored (now (out .entry)) at (sliceLine chains (now (key .entry)) slice) (now (out .exit)) r ⌝ }
 {
     let value = put(out, at, key);
     let end = put_characters(out, value, chains, slice);
@@ -150,8 +145,7 @@ fn all_chains(chains: usize) -> u64
 // Writes a slice line for each slice that expanding gives.
 fn put_slice_lines(out: &mut [u8], at: usize, chains: usize, slices: &[u64]) -> usize
     requires { ⌜ (chains ≤ 64) × (at + length (sliceLines chains (now slices)) < 2 ^ 64) ⌝ }
-    ensures place { λ r. ⌜ r ≡ at + length (sliceLines chains (now (slices .entry))) ⌝ }
-    ensures bytes { λ _. ⌜ now (out .exit) ≡ sets (now (out .entry)) at (sliceLines chains (now (slices .entry))) ⌝ }
+    ensures { λ r. ⌜ Stored (now (out .entry)) at (sliceLines chains (now (slices .entry))) (now (out .exit)) r ⌝ }
 {
     let specified = all_chains(chains);
     let mut place = at;
@@ -170,8 +164,7 @@ fn put_slice_lines(out: &mut [u8], at: usize, chains: usize, slices: &[u64]) -> 
 // Writes the lines that a list repeats from its sheet.
 fn put_head(out: &mut [u8], at: usize, cells: usize, taps: u64, masks: &[u64]) -> usize
     requires { ⌜ at + length (headText (baseOf cells taps) (now masks)) < 2 ^ 64 ⌝ }
-    ensures place { λ r. ⌜ r ≡ at + length (headText (baseOf cells taps) (now (masks .entry))) ⌝ }
-    ensures bytes { λ _. ⌜ now (out .exit) ≡ sets (now (out .entry)) at (headText (baseOf cells taps) (now (masks .entry))) ⌝ }
+    ensures { λ r. ⌜ Stored (now (out .entry)) at (headText (baseOf cells taps) (now (masks .entry))) (now (out .exit)) r ⌝ }
 {
     let a = put_number_line(out, at, 10, b"cells=", cells as u64);
     let b = put_number_line(out, a, 16, b"taps=", taps);
@@ -180,10 +173,18 @@ fn put_head(out: &mut [u8], at: usize, cells: usize, taps: u64, masks: &[u64]) -
 }
 
 // Writes a seed list.
-fn put_list(out: &mut [u8], at: usize, cells: usize, taps: u64, masks: &[u64], stop: TestSlice, slices: usize, seeds: &[u64]) -> usize
+fn put_list(
+    out: &mut [u8],
+    at: usize,
+    cells: usize,
+    taps: u64,
+    masks: &[u64],
+    stop: TestSlice,
+    slices: usize,
+    seeds: &[u64],
+) -> usize
     requires { ⌜ at + length (listText (baseOf cells taps) (now masks) stop slices (now seeds)) < 2 ^ 64 ⌝ }
-    ensures place { λ r. ⌜ r ≡ at + length (listText (baseOf cells taps) (now (masks .entry)) stop slices (now (seeds .entry))) ⌝ }
-    ensures bytes { λ _. ⌜ now (out .exit) ≡ sets (now (out .entry)) at (listText (baseOf cells taps) (now (masks .entry)) stop slices (now (seeds .entry))) ⌝ }
+    ensures { λ r. ⌜ Stored (now (out .entry)) at (listText (baseOf cells taps) (now (masks .entry)) stop slices (now (seeds .entry))) (now (out .exit)) r ⌝ }
 {
     let a = put_head(out, at, cells, taps, masks);
     let b = put_slice_line(out, a, b"stop=", masks.len(), stop);
@@ -194,15 +195,22 @@ fn put_list(out: &mut [u8], at: usize, cells: usize, taps: u64, masks: &[u64], s
 // Writes a refusal.
 fn put_refusal(out: &mut [u8], at: usize, refusal: Refusal) -> usize
     requires { ⌜ at + length (refusedText refusal) < 2 ^ 64 ⌝ }
-    ensures place { λ r. ⌜ r ≡ at + length (refusedText refusal) ⌝ }
-    ensures bytes { λ _. ⌜ now (out .exit) ≡ sets (now (out .entry)) at (refusedText refusal) ⌝ }
+    ensures { λ r. ⌜ Stored (now (out .entry)) at (refusedText refusal) (now (out .exit)) r ⌝ }
 {
     let a = put_number_line(out, at, 10, b"refused=", refusal.number as u64);
     put_number_line(out, a, 10, b"at=", refusal.value as u64)
 }
 
 // The seed list in a lent buffer, or cause 9 with the bytes needed.
-pub fn write_list(out: &mut [u8], cells: usize, taps: u64, masks: &[u64], stop: TestSlice, slices: usize, seeds: &[u64]) -> Written
+pub fn write_list(
+    out: &mut [u8],
+    cells: usize,
+    taps: u64,
+    masks: &[u64],
+    stop: TestSlice,
+    slices: usize,
+    seeds: &[u64],
+) -> Written
     requires { ⌜ (length (now masks) ≤ 2048) × (length (now seeds) ≤ 2048) ⌝ }
     ensures answer { λ r. ⌜ r ≡ fill (listText (baseOf cells taps) (now (masks .entry)) stop slices (now (seeds .entry))) (now (out .entry)) .answer ⌝ }
     ensures buffer { λ _. ⌜ now (out .exit) ≡ fill (listText (baseOf cells taps) (now (masks .entry)) stop slices (now (seeds .entry))) (now (out .entry)) .buffer ⌝ }

@@ -1,0 +1,2 @@
+-- The law of parts, and the proofs of the functions.
+pub mod Parts

@@ -1,0 +1,51 @@
+-- The measure: the tries that are left.
+use Rattle.stream.proofs.write_some.Statement.{statement}
+use Rattle.stream.proofs.write_some.Tie as tie
+use borrow.Author.Needs.{needs}
+use Prim.Native.Nat.{_-_, _≤_}
+use native.Mathlib.Omega.{arith}
+
+abbrev Inv-loop : tie.InvT-loop
+Inv-loop fd part tries₀ tries = tries ≤ 1000000
+
+abbrev μ-loop : tie.MeasureT-loop
+μ-loop fd part tries₀ tries = 1000000 - tries
+
+loop-holds : tie.Need-loop-holds Inv-loop μ-loop
+loop-holds c = omega arith
+
+write-requires : tie.Need-write-requires Inv-loop μ-loop
+write-requires c κs = search needs
+
+count-requires : tie.Need-count-requires Inv-loop μ-loop
+count-requires c κs = search needs
+
+returns : tie.Need-returns Inv-loop μ-loop
+returns c = c .count .ensures .0 .0
+
+add-tries : tie.Need-add-tries Inv-loop μ-loop
+add-tries c = omega arith
+
+loop-less : tie.Need-loop-less Inv-loop μ-loop
+loop-less c = omega arith
+
+loop-again : tie.Need-loop-again Inv-loop μ-loop
+loop-again c = omega arith
+
+returns-2 : tie.Need-returns-2 Inv-loop μ-loop
+returns-2 c = omega arith
+
+pub write-some-spec : {M : Type 1} → statement M
+write-some-spec =
+    tie.close
+    (tie.spec
+    Inv-loop
+    μ-loop
+    loop-holds
+    write-requires
+    count-requires
+    returns
+    add-tries
+    loop-less
+    loop-again
+    returns-2)
