@@ -1,115 +1,119 @@
+-- The lists hold what the lines say, so what is expanded is what the list says.
 use borrow.Author.Needs.{needs}
 use Rattle.text.proofs.expand_text.Statement.{statement}
 use Rattle.text.proofs.expand_text.Tie as tie
-use Rattle.text.proofs.expand_text.Reads as reads
-use Rattle.text.proofs.expand_text.Lts as lts
-use Rattle.reading.proofs.scan.Reads as scan-reads
-use Rattle.text.proofs.expand_said.Reads as expand-said-reads
-use Rattle.text.proofs.number.Reads as number-reads
+use mathlib.Core.Path.{sym, _∙_}
+use lib.Seq.{length-take-le}
+use Rattle.text.proofs.Read.{masks-within, rows-within, few-masks}
+use Rattle.text.proofs.Concluding.{list-said, list-leaves, list-refused}
 
--- src/lib.rt:129:47
 slice-aggregate-scan : tie.Need-slice-aggregate-scan
 slice-aggregate-scan c = search needs
 
--- src/lib.rt:129:59
 slice-aggregate-scan-2 : tie.Need-slice-aggregate-scan-2
 slice-aggregate-scan-2 c = search needs
 
--- src/lib.rt:129:71
 slice-aggregate-scan-3 : tie.Need-slice-aggregate-scan-3
 slice-aggregate-scan-3 c = search needs
 
--- src/lib.rt:129:83
 slice-aggregate-scan-4 : tie.Need-slice-aggregate-scan-4
 slice-aggregate-scan-4 c = search needs
 
--- src/lib.rt:129:96
 slice-aggregate-scan-5 : tie.Need-slice-aggregate-scan-5
 slice-aggregate-scan-5 c = search needs
 
--- src/lib.rt:129:11
 scan-requires : tie.Need-scan-requires
 scan-requires c κs = search needs
 
--- src/lib.rt:130:24
 enum-known-place : tie.Need-enum-known-place
 enum-known-place c = search needs
 
--- src/lib.rt:132:35
 slice-aggregate-number : tie.Need-slice-aggregate-number
 slice-aggregate-number c = search needs
 
--- src/lib.rt:132:28
 number-requires : tie.Need-number-requires
 number-requires c κs = search needs
 
--- src/lib.rt:133:30
 slice-aggregate-number-2 : tie.Need-slice-aggregate-number-2
 slice-aggregate-number-2 c = search needs
 
--- src/lib.rt:133:23
 number-requires-2 : tie.Need-number-requires-2
 number-requires-2 c κs = search needs
 
--- src/lib.rt:136:24
 slice-aggregate-number-3 : tie.Need-slice-aggregate-number-3
 slice-aggregate-number-3 c = search needs
 
--- src/lib.rt:136:17
 number-requires-3 : tie.Need-number-requires-3
 number-requires-3 c κs = search needs
 
--- src/lib.rt:137:24
 slice-aggregate-number-4 : tie.Need-slice-aggregate-number-4
 slice-aggregate-number-4 c = search needs
 
--- src/lib.rt:137:17
 number-requires-4 : tie.Need-number-requires-4
 number-requires-4 c κs = search needs
 
--- src/lib.rt:138:17
 array-share-prefix-masks : tie.Need-array-share-prefix-masks
-array-share-prefix-masks c = ?
+array-share-prefix-masks c =
+    let k = c .before .before .before .before .before .before .before .before .before in
+    let e = sym (k .before .before .before .before .before .before .before .scan .ensures .0) ∙ k .place .given .1 in
+    let s = k .before .before .before .before .before .before .before .scan .ensures .1 in
+    masks-within _ _ _ e _ (s .1 .1 .0)
 
--- src/lib.rt:138:17
 slice-aggregate-expand-said : tie.Need-slice-aggregate-expand-said
-slice-aggregate-expand-said c = ?
+slice-aggregate-expand-said c =
+    let k = c .before .before .before .before .before .before .before .before .before .before in
+    let e = sym (k .before .before .before .before .before .before .before .scan .ensures .0) ∙ k .place .given .1 in
+    let s = k .before .before .before .before .before .before .before .scan .ensures .1 in
+    sym (length-take-le _ _ (masks-within _ _ _ e _ (s .1 .1 .0)))
 
--- src/lib.rt:140:24
 slice-aggregate-number-5 : tie.Need-slice-aggregate-number-5
 slice-aggregate-number-5 c = search needs
 
--- src/lib.rt:140:17
 number-requires-5 : tie.Need-number-requires-5
 number-requires-5 c κs = search needs
 
--- src/lib.rt:141:17
 array-share-prefix-firsts : tie.Need-array-share-prefix-firsts
-array-share-prefix-firsts c = ?
+array-share-prefix-firsts c =
+    let k = c .before .before .before .before .before .before .before .before .before .before .before .before in
+    let e = sym (k .before .before .before .before .before .before .before .scan .ensures .0) ∙ k .place .given .1 in
+    let s = k .before .before .before .before .before .before .before .scan .ensures .1 in
+    rows-within _ _ _ e _ (s .1 .1 .1 .0)
 
--- src/lib.rt:141:17
 slice-aggregate-expand-said-2 : tie.Need-slice-aggregate-expand-said-2
-slice-aggregate-expand-said-2 c = ?
+slice-aggregate-expand-said-2 c =
+    let k = c .before .before .before .before .before .before .before .before .before .before .before .before .before in
+    let e = sym (k .before .before .before .before .before .before .before .scan .ensures .0) ∙ k .place .given .1 in
+    let s = k .before .before .before .before .before .before .before .scan .ensures .1 in
+    sym (length-take-le _ _ (rows-within _ _ _ e _ (s .1 .1 .1 .0)))
 
--- src/lib.rt:135:13
 expand-said-requires : tie.Need-expand-said-requires
-expand-said-requires c κs = ?
+expand-said-requires c κs =
+    let k = c .before .before .before .before .before .before .before .before .before .before .before .before .before .before in
+    few-masks _ _ _ (sym (k .before .before .before .before .before .before .before .scan .ensures .0) ∙ k .place .given .1) _
 
--- src/lib.rt:145:26
 enum-known-refusal : tie.Need-enum-known-refusal
 enum-known-refusal c = search needs
 
--- src/lib.rt:120:1
 same-length : tie.Need-same-length
 same-length c = search needs
 
--- src/lib.rt:120:1
 returns : tie.Need-returns
-returns c = ?
+returns c =
+    let r = c .before .before in
+    let n5 = r .before .before .before in
+    let n4 = n5 .before .before .before in
+    let n3 = n4 .before .before in
+    let n2 = n3 .before .before in
+    let n1 = n2 .before .before in
+    let k = n1 .before .before .before in
+    let e = sym (k .before .before .before .before .before .before .before .scan .ensures .0) ∙ k .place .given .1 in
+    let s = k .before .before .before .before .before .before .before .scan .ensures .1 in
+    list-leaves _ _ _ _ _ e (list-said _ _ _ e _ _ _ (s .0) (s .1 .1 .0) (s .1 .1 .1 .0) _ _ (n3 .number3 .ensures) (n4 .number4 .ensures) _ _ _ _ _ _ (s .1 .0) (n1 .number .ensures) (n2 .number2 .ensures) (n5 .number5 .ensures) (r .expand-said .ensures))
 
--- src/lib.rt:120:1
 returns-2 : tie.Need-returns-2
-returns-2 c = ?
+returns-2 c =
+    let k = c .before in
+    list-refused _ _ _ (sym (k .before .before .before .before .before .before .before .scan .ensures .0) ∙ k .refusal .given .1)
 
 pub expand-text-spec : {M : Type 1} → statement M
 expand-text-spec =

@@ -1,52 +1,58 @@
 use borrow.Author.Needs.{needs}
 use Rattle.text.proofs.reply_list.Statement.{statement}
 use Rattle.text.proofs.reply_list.Tie as tie
-use Rattle.text.proofs.reply_list.Reads as reads
-use Rattle.text.proofs.reply_list.Lts as lts
-use Rattle.bounded.proofs.lesser.Reads as lesser-reads
-use Rattle.causes.proofs.refusal_of.Reads as refusal-of-reads
-use Rattle.text.proofs.answered.Reads as answered-reads
-use Rattle.writing.proofs.write_list.Reads as write-list-reads
+use mathlib.Core.Path.{refl, sym}
+use Prim.Native.Nat.{min}
+use native.Mathlib.Nat.{min-le-right}
+use native.Mathlib.Omega.{arith}
+use lib.ListN.{length, take, length-take}
+use lib.Seq.{length-take-le}
+use Rattle.text.specs.Replies.{listReply}
+use Rattle.text.specs.Calls.{called}
+use Rattle.text.proofs.Answering.{list-leaves}
 
--- src/lib.rt:40:24
 enum-known-encoded : tie.Need-enum-known-encoded
 enum-known-encoded c = search needs
 
--- src/lib.rt:41:17
 lesser-requires : tie.Need-lesser-requires
 lesser-requires c κs = search needs
 
--- src/lib.rt:42:86
 slice-aggregate-write-list : tie.Need-slice-aggregate-write-list
-slice-aggregate-write-list c = ?
+slice-aggregate-write-list c =
+    let l = c .before .before in
+    let h = l .lesser .ensures in
+    let xs = c .before .before .before .before .before .before .before .before .before .args .seeds .now in
+    sym (length-take-le _ xs (rw h (min-le-right _ (length xs))))
 
--- src/lib.rt:42:17
 write-list-requires : tie.Need-write-list-requires
-write-list-requires c κs = ?
+write-list-requires c κs =
+    let s = c .before .before .before .before .before .before .before .before .before in
+    let h = s .pre in
+    (omega (arith, h .0), omega (arith, h .1, length-take (c .before .before .lesser .result) (s .args .seeds .now)))
 
--- src/lib.rt:43:13
 answered-requires : tie.Need-answered-requires
 answered-requires c κs = search needs
 
--- src/lib.rt:45:26
 enum-known-encoded-2 : tie.Need-enum-known-encoded-2
 enum-known-encoded-2 c = search needs
 
--- src/lib.rt:45:52
 refusal-of-requires : tie.Need-refusal-of-requires
 refusal-of-requires c κs = search needs
 
--- src/lib.rt:34:1
 same-length : tie.Need-same-length
 same-length c = search needs
 
--- src/lib.rt:34:1
 returns : tie.Need-returns
-returns c = ?
+returns c =
+    let w = c .before .before .before in
+    let l = w .before .before .before in
+    rw (l .before .before .encoded .given .1) (list-leaves _ _ _ _ _ _ _ _ (l .lesser .ensures) _ _ _ (c .answered .ensures) (w .write-list .ensures .0) (w .write-list .ensures .1))
 
--- src/lib.rt:34:1
 returns-2 : tie.Need-returns-2
-returns-2 c = ?
+unfolding listReply called
+returns-2 c =
+    let t = c .before .before in
+    rw (t .encoded2 .given .1, c .refusal-of .ensures) (refl, refl)
 
 pub reply-list-spec : {M : Type 1} → statement M
 reply-list-spec =

@@ -1,52 +1,58 @@
 use borrow.Author.Needs.{needs}
 use Rattle.text.proofs.reply_slices.Statement.{statement}
 use Rattle.text.proofs.reply_slices.Tie as tie
-use Rattle.text.proofs.reply_slices.Reads as reads
-use Rattle.text.proofs.reply_slices.Lts as lts
-use Rattle.bounded.proofs.lesser.Reads as lesser-reads
-use Rattle.causes.proofs.refusal_of.Reads as refusal-of-reads
-use Rattle.text.proofs.answered.Reads as answered-reads
-use Rattle.writing.proofs.write_slices.Reads as write-slices-reads
+use mathlib.Core.Path.{refl, sym}
+use Prim.Native.Nat.{min}
+use native.Mathlib.Nat.{min-le-right}
+use native.Mathlib.Omega.{arith}
+use lib.ListN.{length, take, length-take}
+use lib.Seq.{length-take-le}
+use Rattle.text.specs.Replies.{slicesReply}
+use Rattle.text.specs.Calls.{called}
+use Rattle.text.proofs.Answering.{slices-leave}
 
--- src/lib.rt:56:24
 enum-known-written : tie.Need-enum-known-written
 enum-known-written c = search needs
 
--- src/lib.rt:57:17
 lesser-requires : tie.Need-lesser-requires
 lesser-requires c κs = search needs
 
--- src/lib.rt:58:60
 slice-aggregate-write-slices : tie.Need-slice-aggregate-write-slices
-slice-aggregate-write-slices c = ?
+slice-aggregate-write-slices c =
+    let l = c .before .before in
+    let h = l .lesser .ensures in
+    let xs = c .before .before .before .before .before .before .before .before .args .slices .now in
+    sym (length-take-le _ xs (rw h (min-le-right _ (length xs))))
 
--- src/lib.rt:58:17
 write-slices-requires : tie.Need-write-slices-requires
-write-slices-requires c κs = ?
+write-slices-requires c κs =
+    let s = c .before .before .before .before .before .before .before .before in
+    let h = s .pre in
+    (h .0, omega (arith, h .1, length-take (c .before .before .lesser .result) (s .args .slices .now)))
 
--- src/lib.rt:59:13
 answered-requires : tie.Need-answered-requires
 answered-requires c κs = search needs
 
--- src/lib.rt:61:26
 enum-known-written-2 : tie.Need-enum-known-written-2
 enum-known-written-2 c = search needs
 
--- src/lib.rt:61:52
 refusal-of-requires : tie.Need-refusal-of-requires
 refusal-of-requires c κs = search needs
 
--- src/lib.rt:50:1
 same-length : tie.Need-same-length
 same-length c = search needs
 
--- src/lib.rt:50:1
 returns : tie.Need-returns
-returns c = ?
+returns c =
+    let w = c .before .before .before in
+    let l = w .before .before .before in
+    rw (l .before .before .written .given .1) (slices-leave _ _ _ _ _ (l .lesser .ensures) _ _ _ (c .answered .ensures) (w .write-slices .ensures .0) (w .write-slices .ensures .1))
 
--- src/lib.rt:50:1
 returns-2 : tie.Need-returns-2
-returns-2 c = ?
+unfolding slicesReply called
+returns-2 c =
+    let t = c .before .before in
+    rw (t .written2 .given .1, c .refusal-of .ensures) (refl, refl)
 
 pub reply-slices-spec : {M : Type 1} → statement M
 reply-slices-spec =

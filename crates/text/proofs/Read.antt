@@ -1,0 +1,61 @@
+-- What stands in the lists after a text is read through: the masks, the rows, and the number for each key.
+use mathlib.Core.Path.{_≡_, sym, ap, _∙_}
+use mathlib.Core.List.{List, _++_}
+use Prim.Native.Nat.{ℕ, _+_, _≤_}
+use native.Mathlib.Omega.{arith}
+use lib.ListN.{length, getD, take, drop, replicate, length-take, length-replicate, getD-replicate}
+use lib.Seq.{sets, length-sets, take-append-seam}
+use Rattle.keys.specs.Keys.{rank}
+use Rattle.keys.specs.declared.Key.{Key}
+use Rattle.reading.specs.Reading.{readingOf}
+use Rattle.reading.specs.Said.{keyIs, picked, masksOf, rowsOf, rowBitsOf, lastOr, keptAll}
+use Rattle.reading.specs.declared.Entry.{Entry}
+use Rattle.reading.specs.declared.Kind.{Kind}
+use Rattle.reading.specs.declared.Place.{Place}
+use Rattle.reading.specs.declared.Scanned.the-variants.{Whole}
+use Rattle.reading.proofs.Counting.{read-counts}
+use Rattle.reading.proofs.Heads.{rank-lt, kept-last}
+use Rattle.writing.proofs.Storing.{sets-front}
+
+-- The front of a list that was filled.
+filled-front : (n : ℕ) (xs old : List ℕ) → length xs ≡ n → n ≤ length old → take n (sets old 0 xs) ≡ xs
+filled-front n xs old e h = ap (take n) (sets-front xs old n e h) ∙ ap (λ k. take k (xs ++ drop n old)) (sym e) ∙ take-append-seam xs (drop n old)
+
+pub record Read (kind : Kind) (s : List ℕ) (p : Place) : Type 0 where
+  pub few : p .masks ≤ 64
+  pub most : p .rows ≤ 2048
+  pub masks : take (p .masks) (sets (replicate 64 0) 0 (masksOf (readingOf kind s .entries))) ≡ masksOf (readingOf kind s .entries)
+  pub rows : take (p .rows) (sets (replicate 2048 0) 0 (rowsOf (readingOf kind s .entries))) ≡ rowsOf (readingOf kind s .entries)
+  pub bits : take (p .rows) (sets (replicate 2048 0) 0 (rowBitsOf (readingOf kind s .entries))) ≡ rowBitsOf (readingOf kind s .entries)
+
+pub read-whole : (kind : Kind) (s : List ℕ) (p : Place) → readingOf kind s .end ≡ Whole p → Read kind s p
+read-whole kind s p e =
+    let c = read-counts kind s p e in
+    let few : p .masks ≤ 64 = omega (arith, c .chains, c .few) in
+    record {
+      few = few;
+      most = c .most;
+      masks = filled-front (p .masks) (masksOf (readingOf kind s .entries)) (replicate 64 0) (omega (arith, c .masks)) few;
+      rows = filled-front (p .rows) (rowsOf (readingOf kind s .entries)) (replicate 2048 0) (omega (arith, c .rows)) (c .most);
+      bits = filled-front (p .rows) (rowBitsOf (readingOf kind s .entries)) (replicate 2048 0) (omega (arith, c .bits)) (c .most);
+    }
+
+pub number-kept : (k : Key) (f : Entry → ℕ) (es : List Entry) → getD (keptAll f (replicate 9 0) es) (rank k) 0 ≡ lastOr 0 (picked (keyIs k) f es)
+number-kept k f es = kept-last k f (replicate 9 0) es (rank-lt k) ∙ ap (λ x. lastOr x (picked (keyIs k) f es)) (getD-replicate 9 (rank k) 0 0 (rank-lt k))
+
+-- A part of a list that was filled lies within it.
+part-within : (m n : ℕ) (l xs : List ℕ) → l ≡ sets (replicate n 0) 0 xs → m ≤ n → m ≤ length l
+part-within m n l xs e h = rw (ap length e ∙ length-sets (replicate n 0) 0 xs ∙ length-replicate n 0) h
+
+module _ (kind : Kind) (s : List ℕ) (p : Place) (e : readingOf kind s .end ≡ Whole p) (l : List ℕ) where
+  pub masks-within : l ≡ sets (replicate 64 0) 0 (masksOf (readingOf kind s .entries)) → p .masks ≤ length l
+  masks-within f = part-within (p .masks) 64 l (masksOf (readingOf kind s .entries)) f (read-whole kind s p e .few)
+
+  pub rows-within : l ≡ sets (replicate 2048 0) 0 (rowsOf (readingOf kind s .entries)) → p .rows ≤ length l
+  rows-within f = part-within (p .rows) 2048 l (rowsOf (readingOf kind s .entries)) f (read-whole kind s p e .most)
+
+  pub bits-within : l ≡ sets (replicate 2048 0) 0 (rowBitsOf (readingOf kind s .entries)) → p .rows ≤ length l
+  bits-within f = part-within (p .rows) 2048 l (rowBitsOf (readingOf kind s .entries)) f (read-whole kind s p e .most)
+
+  pub few-masks : length (take (p .masks) l) ≤ 64
+  few-masks = omega (arith, read-whole kind s p e .few, length-take (p .masks) l)
