@@ -1,5 +1,5 @@
 -- From the lists of a reading to what a text call leaves: the reply to what was read, and the refusal of a reading.
-use mathlib.Core.Path.{_≡_, refl, ap, _∙_}
+use mathlib.Core.Path.{_≡_, refl, sym, ap, _∙_}
 use mathlib.Core.List.{List}
 use Prim.Native.Nat.{ℕ}
 use lib.ListN.{getD, take, replicate}
@@ -14,6 +14,7 @@ use Rattle.reading.specs.Said.{masksOf, rowsOf, rowBitsOf, numberFor, keptAll}
 use Rattle.reading.specs.declared.Kind.{Kind}
 use Rattle.reading.specs.declared.Kind.the-variants as kinds
 use Rattle.reading.specs.declared.Place.{Place}
+use Rattle.reading.specs.declared.Scanned.{Scanned}
 use Rattle.reading.specs.declared.Scanned.the-variants.{Whole, Refused}
 use Rattle.text.specs.Replies.{encoded, expanded, sheetReply, seedListReply, concluded, encodeReply, expandReply}
 use Rattle.text.specs.Calls.{called, encodeCall, expandCall}
@@ -58,11 +59,11 @@ module _ (s out : List ℕ) (a : Answer) (after : List ℕ) where
   unfolding expandCall expandReply concluded
   list-leaves p e l = rw e l
 
-module _ (s out : List ℕ) (r : Refusal) where
-  pub sheet-refused : readingOf kinds.Sheet s .end ≡ Refused r → (answers.Refused r ≡ encodeCall s out .answer) × (out ≡ encodeCall s out .buffer)
+module _ (s out : List ℕ) (r : Refusal) (z : Scanned) where
+  pub sheet-refused : z ≡ readingOf kinds.Sheet s .end → z ≡ Refused r → (answers.Refused r ≡ encodeCall s out .answer) × (out ≡ encodeCall s out .buffer)
   unfolding encodeCall encodeReply concluded called
-  sheet-refused e = rw e (refl, refl)
+  sheet-refused e f = rw (sym e ∙ f) (refl, refl)
 
-  pub list-refused : readingOf kinds.SeedList s .end ≡ Refused r → (answers.Refused r ≡ expandCall s out .answer) × (out ≡ expandCall s out .buffer)
+  pub list-refused : z ≡ readingOf kinds.SeedList s .end → z ≡ Refused r → (answers.Refused r ≡ expandCall s out .answer) × (out ≡ expandCall s out .buffer)
   unfolding expandCall expandReply concluded called
-  list-refused e = rw e (refl, refl)
+  list-refused e f = rw (sym e ∙ f) (refl, refl)

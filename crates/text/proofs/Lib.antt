@@ -2,3 +2,4 @@
 pub mod Answering
 pub mod Read
 pub mod Concluding
+pub mod Space

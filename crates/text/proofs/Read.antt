@@ -12,6 +12,7 @@ use Rattle.reading.specs.Said.{keyIs, picked, masksOf, rowsOf, rowBitsOf, lastO
 use Rattle.reading.specs.declared.Entry.{Entry}
 use Rattle.reading.specs.declared.Kind.{Kind}
 use Rattle.reading.specs.declared.Place.{Place}
+use Rattle.reading.specs.declared.Scanned.{Scanned}
 use Rattle.reading.specs.declared.Scanned.the-variants.{Whole}
 use Rattle.reading.proofs.Counting.{read-counts}
 use Rattle.reading.proofs.Heads.{rank-lt, kept-last}
@@ -47,15 +48,22 @@ number-kept k f es = kept-last k f (replicate 9 0) es (rank-lt k) ∙ ap (λ x. 
 part-within : (m n : ℕ) (l xs : List ℕ) → l ≡ sets (replicate n 0) 0 xs → m ≤ n → m ≤ length l
 part-within m n l xs e h = rw (ap length e ∙ length-sets (replicate n 0) 0 xs ∙ length-replicate n 0) h
 
-module _ (kind : Kind) (s : List ℕ) (p : Place) (e : readingOf kind s .end ≡ Whole p) (l : List ℕ) where
-  pub masks-within : l ≡ sets (replicate 64 0) 0 (masksOf (readingOf kind s .entries)) → p .masks ≤ length l
-  masks-within f = part-within (p .masks) 64 l (masksOf (readingOf kind s .entries)) f (read-whole kind s p e .few)
+-- A reading that ended as r, which is the place p.
+module _ {r : Scanned} (kind : Kind) (s : List ℕ) (p : Place) (a : r ≡ readingOf kind s .end) (b : r ≡ Whole p) where
+  pub ends-whole : readingOf kind s .end ≡ Whole p
+  ends-whole = sym a ∙ b
 
-  pub rows-within : l ≡ sets (replicate 2048 0) 0 (rowsOf (readingOf kind s .entries)) → p .rows ≤ length l
-  rows-within f = part-within (p .rows) 2048 l (rowsOf (readingOf kind s .entries)) f (read-whole kind s p e .most)
+  pub read-lists : Read kind s p
+  read-lists = read-whole kind s p ends-whole
 
-  pub bits-within : l ≡ sets (replicate 2048 0) 0 (rowBitsOf (readingOf kind s .entries)) → p .rows ≤ length l
-  bits-within f = part-within (p .rows) 2048 l (rowBitsOf (readingOf kind s .entries)) f (read-whole kind s p e .most)
+  pub masks-within : (l : List ℕ) → l ≡ sets (replicate 64 0) 0 (masksOf (readingOf kind s .entries)) → p .masks ≤ length l
+  masks-within l f = part-within (p .masks) 64 l (masksOf (readingOf kind s .entries)) f (read-lists .few)
 
-  pub few-masks : length (take (p .masks) l) ≤ 64
-  few-masks = omega (arith, read-whole kind s p e .few, length-take (p .masks) l)
+  pub rows-within : (l : List ℕ) → l ≡ sets (replicate 2048 0) 0 (rowsOf (readingOf kind s .entries)) → p .rows ≤ length l
+  rows-within l f = part-within (p .rows) 2048 l (rowsOf (readingOf kind s .entries)) f (read-lists .most)
+
+  pub bits-within : (l : List ℕ) → l ≡ sets (replicate 2048 0) 0 (rowBitsOf (readingOf kind s .entries)) → p .rows ≤ length l
+  bits-within l f = part-within (p .rows) 2048 l (rowBitsOf (readingOf kind s .entries)) f (read-lists .most)
+
+  pub few-masks : (l : List ℕ) → length (take (p .masks) l) ≤ 64
+  few-masks l = omega (arith, read-lists .few, length-take (p .masks) l)

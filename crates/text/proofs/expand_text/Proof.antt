@@ -2,9 +2,9 @@
 use borrow.Author.Needs.{needs}
 use Rattle.text.proofs.expand_text.Statement.{statement}
 use Rattle.text.proofs.expand_text.Tie as tie
-use mathlib.Core.Path.{sym, _∙_}
+use mathlib.Core.Path.{sym}
 use lib.Seq.{length-take-le}
-use Rattle.text.proofs.Read.{masks-within, rows-within, few-masks}
+use Rattle.text.proofs.Read.{ends-whole, masks-within, rows-within, few-masks}
 use Rattle.text.proofs.Concluding.{list-said, list-leaves, list-refused}
 
 slice-aggregate-scan : tie.Need-slice-aggregate-scan
@@ -55,16 +55,14 @@ number-requires-4 c κs = search needs
 array-share-prefix-masks : tie.Need-array-share-prefix-masks
 array-share-prefix-masks c =
     let k = c .before .before .before .before .before .before .before .before .before in
-    let e = sym (k .before .before .before .before .before .before .before .scan .ensures .0) ∙ k .place .given .1 in
-    let s = k .before .before .before .before .before .before .before .scan .ensures .1 in
-    masks-within _ _ _ e _ (s .1 .1 .0)
+    let s = k .before .before .before .before .before .before .before .scan .ensures in
+    masks-within _ _ _ (s .0) (k .place .given .1) _ (s .1 .1 .1 .0)
 
 slice-aggregate-expand-said : tie.Need-slice-aggregate-expand-said
 slice-aggregate-expand-said c =
     let k = c .before .before .before .before .before .before .before .before .before .before in
-    let e = sym (k .before .before .before .before .before .before .before .scan .ensures .0) ∙ k .place .given .1 in
-    let s = k .before .before .before .before .before .before .before .scan .ensures .1 in
-    sym (length-take-le _ _ (masks-within _ _ _ e _ (s .1 .1 .0)))
+    let s = k .before .before .before .before .before .before .before .scan .ensures in
+    sym (length-take-le _ _ (masks-within _ _ _ (s .0) (k .place .given .1) _ (s .1 .1 .1 .0)))
 
 slice-aggregate-number-5 : tie.Need-slice-aggregate-number-5
 slice-aggregate-number-5 c = search needs
@@ -75,21 +73,19 @@ number-requires-5 c κs = search needs
 array-share-prefix-firsts : tie.Need-array-share-prefix-firsts
 array-share-prefix-firsts c =
     let k = c .before .before .before .before .before .before .before .before .before .before .before .before in
-    let e = sym (k .before .before .before .before .before .before .before .scan .ensures .0) ∙ k .place .given .1 in
-    let s = k .before .before .before .before .before .before .before .scan .ensures .1 in
-    rows-within _ _ _ e _ (s .1 .1 .1 .0)
+    let s = k .before .before .before .before .before .before .before .scan .ensures in
+    rows-within _ _ _ (s .0) (k .place .given .1) _ (s .1 .1 .1 .1 .0)
 
 slice-aggregate-expand-said-2 : tie.Need-slice-aggregate-expand-said-2
 slice-aggregate-expand-said-2 c =
     let k = c .before .before .before .before .before .before .before .before .before .before .before .before .before in
-    let e = sym (k .before .before .before .before .before .before .before .scan .ensures .0) ∙ k .place .given .1 in
-    let s = k .before .before .before .before .before .before .before .scan .ensures .1 in
-    sym (length-take-le _ _ (rows-within _ _ _ e _ (s .1 .1 .1 .0)))
+    let s = k .before .before .before .before .before .before .before .scan .ensures in
+    sym (length-take-le _ _ (rows-within _ _ _ (s .0) (k .place .given .1) _ (s .1 .1 .1 .1 .0)))
 
 expand-said-requires : tie.Need-expand-said-requires
 expand-said-requires c κs =
     let k = c .before .before .before .before .before .before .before .before .before .before .before .before .before .before in
-    few-masks _ _ _ (sym (k .before .before .before .before .before .before .before .scan .ensures .0) ∙ k .place .given .1) _
+    few-masks _ _ _ (k .before .before .before .before .before .before .before .scan .ensures .0) (k .place .given .1) _
 
 enum-known-refusal : tie.Need-enum-known-refusal
 enum-known-refusal c = search needs
@@ -106,14 +102,14 @@ returns c =
     let n2 = n3 .before .before in
     let n1 = n2 .before .before in
     let k = n1 .before .before .before in
-    let e = sym (k .before .before .before .before .before .before .before .scan .ensures .0) ∙ k .place .given .1 in
-    let s = k .before .before .before .before .before .before .before .scan .ensures .1 in
-    list-leaves _ _ _ _ _ e (list-said _ _ _ e _ _ _ (s .0) (s .1 .1 .0) (s .1 .1 .1 .0) _ _ (n3 .number3 .ensures) (n4 .number4 .ensures) _ _ _ _ _ _ (s .1 .0) (n1 .number .ensures) (n2 .number2 .ensures) (n5 .number5 .ensures) (r .expand-said .ensures))
+    let s = k .before .before .before .before .before .before .before .scan .ensures in
+    let e = ends-whole _ _ _ (s .0) (k .place .given .1) in
+    list-leaves _ _ _ _ _ e (list-said _ _ _ e _ _ _ (s .1 .0) (s .1 .1 .1 .0) (s .1 .1 .1 .1 .0) _ _ (n3 .number3 .ensures) (n4 .number4 .ensures) _ _ _ _ _ _ (s .1 .1 .0) (n1 .number .ensures) (n2 .number2 .ensures) (n5 .number5 .ensures) (r .expand-said .ensures))
 
 returns-2 : tie.Need-returns-2
 returns-2 c =
     let k = c .before in
-    list-refused _ _ _ (sym (k .before .before .before .before .before .before .before .scan .ensures .0) ∙ k .refusal .given .1)
+    list-refused _ _ _ _ (k .before .before .before .before .before .before .before .scan .ensures .0) (k .refusal .given .1)
 
 pub expand-text-spec : {M : Type 1} → statement M
 expand-text-spec =

@@ -1,0 +1,23 @@
+-- The buffer has space for whatever is printed.
+use borrow.Author.Needs.{needs}
+use Rattle.encode.proofs.reply.Statement.{statement}
+use Rattle.encode.proofs.reply.Tie as tie
+use Rattle.text.proofs.Space.{encode-prints}
+
+encode-text-requires : tie.Need-encode-text-requires
+encode-text-requires c κs = search needs
+
+print-requires : tie.Need-print-requires
+print-requires c κs = search needs
+
+same-length : tie.Need-same-length
+same-length c = search needs
+
+returns : tie.Need-returns
+returns c =
+    let p = c .before .before in
+    let e = p .before .before .before .before in
+    encode-prints _ _ (e .before .before .before .before .pre) _ _ _ _ (p .print .ensures .0) (p .print .ensures .1) (e .encode-text .ensures .0) (e .encode-text .ensures .1)
+
+pub reply-spec : {M : Type 1} → statement M
+reply-spec = tie.close (tie.spec encode-text-requires print-requires same-length returns)
