@@ -6,6 +6,7 @@
 --     stopAnswerOf formed           number 0 with the stop slice, or the number and value of the refusal, and no position
 --     seedAnswerOf seed             number 0 with the seed, or the number and value of the refusal, and seed 0
 --     cubesAnswerOf encoded         number 0 with the seeds written and the stop slice, or the number and value of the refusal, and no position
+--     textAnswerOf answer           number 0 with the bytes written and their seeds or slices, or the number and value of the refusal, and 0
 use Prim.Native.Nat.{ℕ}
 use Rattle.causes.specs.Sheet.{refusalOf}
 use Rattle.register.specs.declared.Register.{Register}
@@ -16,14 +17,17 @@ use Rattle.checks.specs.declared.Verdict.the-variants.{WellFormed, Refused}
 use Rattle.stop.specs.declared.Formed.{Formed}
 use Rattle.covering.specs.declared.Seed.{Seed}
 use Rattle.encoder.specs.declared.Encoded.{Encoded}
+use Rattle.text.specs.declared.Answer as textAnswer
 use Rattle.seeds.specs.declared.Answer.{Answer}
 use Rattle.seeds.specs.declared.SeedAnswer.{SeedAnswer}
 use Rattle.seeds.specs.declared.CubesAnswer.{CubesAnswer}
 use Rattle.seeds.specs.declared.StopAnswer.{StopAnswer}
+use Rattle.seeds.specs.declared.TextAnswer.{TextAnswer}
 use Rattle.causes.specs.declared.Written.the-variants as written
 use Rattle.stop.specs.declared.Formed.the-variants as formed
 use Rattle.covering.specs.declared.Seed.the-variants as seed
 use Rattle.encoder.specs.declared.Encoded.the-variants as encoded
+use Rattle.text.specs.declared.Answer.the-variants as texts
 
 abbrev pub registerOf : ℕ → ℕ → Register
 registerOf cells taps = record { cells = cells; taps = taps }
@@ -50,3 +54,7 @@ seedAnswerOf (seed.Refused c) = record { number = refusalOf c .number; value = r
 abbrev pub cubesAnswerOf : Encoded → CubesAnswer
 cubesAnswerOf (encoded.Seeds stop n) = record { number = 0; value = n; specified = stop .specified; bits = stop .bits }
 cubesAnswerOf (encoded.Refused c) = record { number = refusalOf c .number; value = refusalOf c .value; specified = 0; bits = 0 }
+
+abbrev pub textAnswerOf : textAnswer.Answer → TextAnswer
+textAnswerOf (texts.Text bytes entries) = record { number = 0; value = bytes; entries = entries }
+textAnswerOf (texts.Refused r) = record { number = r .number; value = r .value; entries = 0 }

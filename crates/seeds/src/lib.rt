@@ -20,7 +20,8 @@ ghost use Rattle.expander.specs.Expanding.{expandList};
 ghost use Rattle.covering.specs.Single.{windowSeed, WindowMeaning};
 ghost use Rattle.encoder.specs.Encoding.{encodeSet, encodeCubes};
 ghost use Rattle.encoder.specs.Meaning.{SetMeaning, CubesMeaning};
-ghost use Rattle.seeds.specs.Face.{answerOf, cubesAnswerOf, numberOf, registerOf, seedAnswerOf, stopAnswerOf, testSliceOf};
+ghost use Rattle.text.specs.Calls.{encodeCall, expandCall};
+ghost use Rattle.seeds.specs.Face.{answerOf, cubesAnswerOf, numberOf, registerOf, seedAnswerOf, stopAnswerOf, testSliceOf, textAnswerOf};
 
 // The answer of a call that writes into a lent buffer: number 0 with the entries written, or the number and value of the refusal.
 #[repr(C)]
@@ -53,6 +54,14 @@ pub struct CubesAnswer {
     pub value: usize,
     pub specified: u64,
     pub bits: u64,
+}
+
+// The answer of a text call: number 0 with the bytes written and how many seeds or slices they say, or the number and value of the refusal, and 0.
+#[repr(C)]
+pub struct TextAnswer {
+    pub number: usize,
+    pub value: usize,
+    pub entries: usize,
 }
 
 // One step of the register from a state; of more than 64 cells the first 64 count.
@@ -381,4 +390,40 @@ pub extern "C" fn seeds_encode_cubes(
     ensures meaning { λ _. ⌜ CubesMeaning (base cells taps) (now (masks .entry)) depth (now (specified .entry)) (now (bits .entry)) (now (out .entry)) (encodeCubes (base cells taps) (now (masks .entry)) depth (now (specified .entry)) (now (bits .entry)) (now (out .entry))) ⌝ }
 {
     cubes_answer_of(encoder::encode_cubes(cells, taps, masks, depth, specified, bits, out))
+}
+
+// The number, value and entries of a text call.
+fn text_answer_of(answer: text::Answer) -> TextAnswer
+    ensures { λ r. ⌜ r ≡ textAnswerOf answer ⌝ }
+{
+    match answer {
+        text::Answer::Text(bytes, entries) => TextAnswer {
+            number: 0,
+            value: bytes,
+            entries,
+        },
+        text::Answer::Refused(refusal) => TextAnswer {
+            number: refusal.number,
+            value: refusal.value,
+            entries: 0,
+        },
+    }
+}
+
+// The seed list of a sheet, written into the buffer as text: the first refused line, then the checks over the whole, then 9 with the bytes needed.
+#[no_mangle]
+pub extern "C" fn seeds_encode_text(sheet: &[u8], out: &mut [u8]) -> TextAnswer
+    ensures answer { λ r. ⌜ r ≡ textAnswerOf (encodeCall (now (sheet .entry)) (now (out .entry)) .answer) ⌝ }
+    ensures buffer { λ _. ⌜ now (out .exit) ≡ encodeCall (now (sheet .entry)) (now (out .entry)) .buffer ⌝ }
+{
+    text_answer_of(text::encode_text(sheet, out))
+}
+
+// The slices of a seed list, written into the buffer as text: refused in the same order.
+#[no_mangle]
+pub extern "C" fn seeds_expand_text(list: &[u8], out: &mut [u8]) -> TextAnswer
+    ensures answer { λ r. ⌜ r ≡ textAnswerOf (expandCall (now (list .entry)) (now (out .entry)) .answer) ⌝ }
+    ensures buffer { λ _. ⌜ now (out .exit) ≡ expandCall (now (list .entry)) (now (out .entry)) .buffer ⌝ }
+{
+    text_answer_of(text::expand_text(list, out))
 }
