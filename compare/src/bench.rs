@@ -182,8 +182,8 @@ pub fn starred() -> Outcome {
     Ok(18)
 }
 
-const SHEET: &str = "cells=3\ntaps=6\nchains=2\nchain=1\nchain=4\ndepth=2\nslice=10\nslice=x1\nslice=1x\nslice=1x\n";
-const LIST: &str =
+pub const SHEET: &str = "cells=3\ntaps=6\nchains=2\nchain=1\nchain=4\ndepth=2\nslice=10\nslice=x1\nslice=1x\nslice=1x\n";
+pub const LIST: &str =
     "cells=3\ntaps=6\nchains=2\nchain=1\nchain=4\nstop=0x\nslices=4\nseed=3\nseed=3\n";
 const SLICES: &str = "slice=10\nslice=11\nslice=10\nslice=11\n";
 

@@ -228,7 +228,7 @@ pub fn divide(random: &mut Random, call: &mut Call) {
 }
 
 /// A set for a register of up to `most_cells` cells: of any slices, of few bits, or delivered.
-fn small(random: &mut Random, most_cells: usize) -> Call {
+pub fn small(random: &mut Random, most_cells: usize) -> Call {
     let (cells, chains) = (random.between(1, most_cells), random.between(1, 6));
     match random.below(4) {
         0 => lawful(random, most_cells, 6, 24),

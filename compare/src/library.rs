@@ -40,6 +40,15 @@ pub struct CubesAnswer {
     pub bits: u64,
 }
 
+/// Number 0, the bytes written and the seeds or slices in them; or a refusal's number and value, with no entries.
+#[repr(C)]
+#[derive(Debug, PartialEq)]
+pub struct TextAnswer {
+    pub number: usize,
+    pub value: usize,
+    pub entries: usize,
+}
+
 /// The second program's answer as the library gives it.
 impl From<Result<usize, Refused>> for Answer {
     fn from(told: Result<usize, Refused>) -> Answer {
@@ -216,6 +225,18 @@ extern "C" {
         out: *mut u64,
         out_len: usize,
     ) -> CubesAnswer;
+    fn seeds_encode_text(
+        text: *const u8,
+        text_len: usize,
+        out: *mut u8,
+        out_len: usize,
+    ) -> TextAnswer;
+    fn seeds_expand_text(
+        text: *const u8,
+        text_len: usize,
+        out: *mut u8,
+        out_len: usize,
+    ) -> TextAnswer;
 }
 
 pub fn step(cells: usize, taps: u64, state: u64) -> u64 {
@@ -258,6 +279,16 @@ pub fn stop(chains: usize, specified: &[u64], bits: &[u64]) -> StopAnswer {
             bits.len(),
         )
     }
+}
+
+/// The seed list of a sheet. The text is lent to be changed, so that a change can be seen.
+pub fn encode_text(text: &mut [u8], out: &mut [u8]) -> TextAnswer {
+    unsafe { seeds_encode_text(text.as_mut_ptr(), text.len(), out.as_mut_ptr(), out.len()) }
+}
+
+/// The slice lines of a seed list.
+pub fn expand_text(text: &mut [u8], out: &mut [u8]) -> TextAnswer {
+    unsafe { seeds_expand_text(text.as_mut_ptr(), text.len(), out.as_mut_ptr(), out.len()) }
 }
 
 impl Call {

@@ -1,26 +1,40 @@
-// The test program: the proved library, document 01's bench examples and document 004's figure 2, against the second program.
+// The test program: the proved library, the two programs, document 01's bench examples and document 004's figure 2, against the second program.
 // Prints a line for each case and ends with `N passed, M failed`. `compare figures SECONDS` prints a table of times instead.
+// `compare texts N` runs the cases over texts alone, with N random texts for the library and N for the programs.
 
 mod bench;
 mod call;
+mod child;
 mod clock;
+mod damage;
 mod encodes;
 mod expands;
 mod figure;
 mod figures;
 mod inputs;
+mod known;
+mod largest;
 mod leaves;
 mod lent;
 mod library;
 mod limits;
+mod marks;
 mod notes;
+mod order;
+mod programs;
 mod random;
+mod remarks;
 mod report;
 mod runs;
 mod sample;
 mod seen;
+mod sheets;
 mod small;
 mod stops;
+mod tally;
+mod text;
+mod texts;
+mod values;
 mod wide;
 mod windows;
 
@@ -61,6 +75,22 @@ fn sample(root: &str, file: &str) -> ExitCode {
     }
 }
 
+/// `compare texts N`.
+fn texts_alone(count: &str) -> ExitCode {
+    let Ok(count) = count.parse() else {
+        println!("{count} is no number of texts");
+        return ExitCode::FAILURE;
+    };
+    let mut report = Report::new();
+    library_texts(&mut report, count);
+    program_texts(&mut report, count);
+    if report.end() {
+        ExitCode::SUCCESS
+    } else {
+        ExitCode::FAILURE
+    }
+}
+
 fn main() -> ExitCode {
     let words: Vec<String> = std::env::args().skip(1).collect();
     let words: Vec<&str> = words.iter().map(String::as_str).collect();
@@ -70,12 +100,15 @@ fn main() -> ExitCode {
         ["figures-one", chains, percent, program, limit] => {
             return figures::one(chains, percent, program, limit)
         }
+        ["texts", count] => return texts_alone(count),
         _ => {}
     }
     let mut report = Report::new();
     examples(&mut report);
     library_leaves(&mut report);
     library_encodes(&mut report);
+    library_texts(&mut report, texts::RANDOM_TEXTS);
+    program_texts(&mut report, programs::RANDOM_TEXTS);
     if report.end() {
         ExitCode::SUCCESS
     } else {
@@ -127,4 +160,25 @@ fn library_encodes(report: &mut Report) {
     report.case("library: damaged sets", encodes::damaged());
     report.case("library: sets at the limits", limits::answers());
     report.case("library: sets of 64 cells", wide::answers());
+}
+
+/// The library's entries for texts.
+fn library_texts(report: &mut Report, count: usize) {
+    report.texts("library: known texts", texts::known());
+    report.texts("library: texts byte by byte", texts::byte_by_byte());
+    report.texts("library: large texts", texts::large());
+    report.texts("library: random texts", texts::random(count));
+}
+
+/// The two programs.
+fn program_texts(report: &mut Report, count: usize) {
+    let paths = match programs::Paths::find() {
+        Ok(paths) => paths,
+        Err(why) => return report.case("programs", Err(why)),
+    };
+    report.texts("programs: known texts", programs::known(&paths));
+    report.texts("programs: large texts", programs::large(&paths));
+    report.texts("programs: pieces and pauses", programs::in_pieces(&paths));
+    report.texts("programs: encode into expand", programs::both(&paths));
+    report.texts("programs: random texts", programs::random(&paths, count));
 }

@@ -1,5 +1,7 @@
 // The cases of the run: each has a name and a number of comparisons, and passes or fails as a whole.
 
+use crate::tally::Tally;
+
 pub struct Report {
     passed: usize,
     failed: usize,
@@ -24,6 +26,17 @@ impl Report {
                 self.passed += 1;
                 println!("pass {name}: {count} compared");
             }
+            Err(why) => self.fail(name, &why),
+        }
+    }
+
+    /// A case over texts, which says their number too.
+    pub fn texts(&mut self, name: &str, outcome: Result<Tally, String>) {
+        match outcome {
+            Ok(tally) => self.case(
+                &format!("{name}, {} texts", tally.texts),
+                Ok(tally.compared),
+            ),
             Err(why) => self.fail(name, &why),
         }
     }

@@ -12,9 +12,9 @@ use std::io;
 use std::path::Path;
 
 /// The crates whose definitions the answers are computed from.
-const CRATES: [&str; 11] = [
+const CRATES: [&str; 16] = [
     "bounded", "gf2", "causes", "register", "slices", "checks", "cutting", "stop", "covering",
-    "expander", "encoder",
+    "expander", "encoder", "keys", "lines", "reading", "writing", "text",
 ];
 
 /// How many answers one statement has.
@@ -23,7 +23,7 @@ const ROWS: usize = 25;
 /// The definitions that unfold, as `use` lines, and the names that they have in the file.
 fn definitions(root: &Path) -> io::Result<(String, Vec<String>)> {
     let mut found: BTreeMap<(String, String), Vec<String>> = BTreeMap::new();
-    for name in CRATES.iter().chain(&["text"]) {
+    for name in CRATES {
         let mut files: Vec<_> = fs::read_dir(root.join("crates").join(name).join("specs"))?
             .filter_map(|entry| entry.ok().map(|entry| entry.path()))
             .filter(|path| path.extension().is_some_and(|ending| ending == "antt"))
@@ -87,7 +87,7 @@ use Rattle.stop.specs.declared.Formed.{Formed}
 use Rattle.stop.specs.declared.Formed.the-variants as formed
 use Rattle.covering.specs.declared.Seed.{Seed}
 use Rattle.covering.specs.declared.Seed.the-variants as seed
-use Rattle.text.specs.Bytes.{bytes}
+use Rattle.keys.specs.Bytes.{bytes}
 ";
 
 /// Questions and answers of one kind.

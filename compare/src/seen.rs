@@ -21,6 +21,10 @@ impl Seen {
         }
     }
 
+    pub fn join(&mut self, other: Seen) {
+        self.0.extend(other.0);
+    }
+
     /// Fails unless each of these was seen.
     pub fn require(&self, names: &[&str]) -> Result<(), String> {
         for name in names {

@@ -8,7 +8,7 @@ use crate::report::Outcome;
 
 /// A set for 64 cells and so many chains: of any slices, or delivered.
 /// With less than a bit a slice a long window can need a long search, so there are few slices then.
-fn set(random: &mut Random, chains: usize, percent: u64) -> Call {
+pub fn set(random: &mut Random, chains: usize, percent: u64) -> Call {
     let sparse = chains as u64 * percent < 100;
     let most = if sparse { 40 } else { 300 };
     let mut call = shaped(random, 64, chains);

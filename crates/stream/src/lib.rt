@@ -41,13 +41,13 @@ pub fn read_all(fd: i32, buffer: &mut [u8]) -> usize
 fn write_some(fd: i32, part: &[u8]) -> usize
     ensures { λ r. ⌜ r ≤ length (now (part .entry)) ⌝ }
 {
-    let mut tries = 0;
-    while tries < MOST_TRIES {
+    let mut attempts = 0;
+    while attempts < MOST_TRIES {
         let got = libc::write(fd, part);
         if got >= 0 {
             return io::count(got, part);
         }
-        tries += 1;
+        attempts += 1;
     }
     0
 }
@@ -56,13 +56,13 @@ fn write_some(fd: i32, part: &[u8]) -> usize
 pub fn write_all(fd: i32, bytes: &[u8]) -> usize
     ensures { λ r. ⌜ Counts r (now (bytes .entry)) ⌝ }
 {
-    let mut done = 0;
-    while done < bytes.len() {
-        let more = write_some(fd, &bytes[done..]);
+    let mut sent = 0;
+    while sent < bytes.len() {
+        let more = write_some(fd, &bytes[sent..]);
         if more == 0 {
-            return done;
+            return sent;
         }
-        done += more;
+        sent += more;
     }
-    done
+    sent
 }

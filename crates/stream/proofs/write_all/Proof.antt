@@ -10,10 +10,10 @@ use lib.Seq.{length-take-le}
 use Rattle.stream.proofs.Parts.{part-within}
 
 abbrev Inv-loop : tie.InvT-loop
-Inv-loop fd bytes done₀ done = done ≤ length bytes
+Inv-loop fd bytes sent₀ sent = sent ≤ length bytes
 
 abbrev μ-loop : tie.MeasureT-loop
-μ-loop fd bytes done₀ done = length bytes - done
+μ-loop fd bytes sent₀ sent = length bytes - sent
 
 loop-holds : tie.Need-loop-holds Inv-loop μ-loop
 loop-holds c = omega arith
@@ -33,22 +33,22 @@ write-some-requires c κs = search needs
 returns : tie.Need-returns Inv-loop μ-loop
 returns c = let h = c .before .before .before .before .loop .inv in (h, sym (length-take-le _ _ h))
 
-add-done : tie.Need-add-done Inv-loop μ-loop
-add-done c =
+add-sent : tie.Need-add-sent Inv-loop μ-loop
+add-sent c =
     let l = c .before .before .before .before in
-    let m = part-within _ (l .loop .done) (l .before .before .args .bytes .now) (c .before .write-some .ensures) in
+    let m = part-within _ (l .loop .sent) (l .before .before .args .bytes .now) (c .before .write-some .ensures) in
     omega (arith, m)
 
 loop-less : tie.Need-loop-less Inv-loop μ-loop
 loop-less c =
     let l = c .before .before .before .before in
-    let m = part-within _ (l .loop .done) (l .before .before .args .bytes .now) (c .before .write-some .ensures) in
+    let m = part-within _ (l .loop .sent) (l .before .before .args .bytes .now) (c .before .write-some .ensures) in
     omega (arith, m)
 
 loop-again : tie.Need-loop-again Inv-loop μ-loop
 loop-again c =
     let l = c .before .before .before .before in
-    let m = part-within _ (l .loop .done) (l .before .before .args .bytes .now) (c .before .write-some .ensures) in
+    let m = part-within _ (l .loop .sent) (l .before .before .args .bytes .now) (c .before .write-some .ensures) in
     omega (arith, m)
 
 returns-2 : tie.Need-returns-2 Inv-loop μ-loop
@@ -66,7 +66,7 @@ write-all-spec =
     part-write-some-end
     write-some-requires
     returns
-    add-done
+    add-sent
     loop-less
     loop-again
     returns-2)

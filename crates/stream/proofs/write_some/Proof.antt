@@ -1,4 +1,4 @@
--- The measure: the tries that are left.
+-- The measure: the attempts that are left.
 use Rattle.stream.proofs.write_some.Statement.{statement}
 use Rattle.stream.proofs.write_some.Tie as tie
 use borrow.Author.Needs.{needs}
@@ -6,10 +6,10 @@ use Prim.Native.Nat.{_-_, _≤_}
 use native.Mathlib.Omega.{arith}
 
 abbrev Inv-loop : tie.InvT-loop
-Inv-loop fd part tries₀ tries = tries ≤ 1000000
+Inv-loop fd part attempts₀ attempts = attempts ≤ 1000000
 
 abbrev μ-loop : tie.MeasureT-loop
-μ-loop fd part tries₀ tries = 1000000 - tries
+μ-loop fd part attempts₀ attempts = 1000000 - attempts
 
 loop-holds : tie.Need-loop-holds Inv-loop μ-loop
 loop-holds c = omega arith
@@ -23,8 +23,8 @@ count-requires c κs = search needs
 returns : tie.Need-returns Inv-loop μ-loop
 returns c = c .count .ensures .0 .0
 
-add-tries : tie.Need-add-tries Inv-loop μ-loop
-add-tries c = omega arith
+add-attempts : tie.Need-add-attempts Inv-loop μ-loop
+add-attempts c = omega arith
 
 loop-less : tie.Need-loop-less Inv-loop μ-loop
 loop-less c = omega arith
@@ -45,7 +45,7 @@ write-some-spec =
     write-requires
     count-requires
     returns
-    add-tries
+    add-attempts
     loop-less
     loop-again
     returns-2)

@@ -1,0 +1,97 @@
+// What was met in texts, as names that a case can require.
+
+use crate::seen::Seen;
+use crate::text::{Program, Text, Told};
+use crate::values::KEYS;
+use second::Refused;
+
+/// The key that a line from 1 has; what else stands there.
+fn key_at(text: &[u8], at: u64) -> String {
+    let mut lines = text.split_inclusive(|&byte| byte == b'\n');
+    let Some(line) = lines.nth(at as usize - 1) else {
+        return "the end".into();
+    };
+    match KEYS.iter().find(|key| line.starts_with(key)) {
+        Some(key) => String::from_utf8_lossy(key).into_owned(),
+        None => "another line".into(),
+    }
+}
+
+/// Notes the answer; of a refused line its key.
+pub fn note(text: &Text, told: &Told, seen: &mut Seen) {
+    let program = text.program.name();
+    let Err(Refused { number, value }) = told.answer else {
+        seen.note(&format!("{program}, accepted"));
+        return;
+    };
+    let at_line = matches!(number, 1 | 2 | 5 | 13) || number == 3 && value > 0;
+    let place = match at_line {
+        true => format!("{number} at {}", key_at(&text.bytes, value)),
+        false => format!("{number}"),
+    };
+    seen.note(&format!("{program}, {place}"));
+}
+
+/// What must be met in sheets.
+const SHEETS: [&str; 20] = [
+    "accepted",
+    "1 at cells=",
+    "1 at taps=",
+    "2 at chains=",
+    "2 at chain=",
+    "3",
+    "3 at depth=",
+    "3 at slice=",
+    "6",
+    "8",
+    "13 at cells=",
+    "13 at taps=",
+    "13 at chains=",
+    "13 at chain=",
+    "13 at depth=",
+    "13 at slice=",
+    "13 at stop=",
+    "13 at seed=",
+    "13 at another line",
+    "13 at the end",
+];
+
+/// What must be met in lists.
+const LISTS: [&str; 23] = [
+    "accepted",
+    "1 at cells=",
+    "1 at taps=",
+    "2 at chains=",
+    "2 at chain=",
+    "3 at slices=",
+    "3 at seed=",
+    "5 at stop=",
+    "10",
+    "11",
+    "12",
+    "13 at cells=",
+    "13 at taps=",
+    "13 at chains=",
+    "13 at chain=",
+    "13 at stop=",
+    "13 at slices=",
+    "13 at seed=",
+    "13 at slice=",
+    "13 at depth=",
+    "13 at another line",
+    "13 at the end",
+    "14",
+];
+
+/// Fails unless each cause that a text can give was met, of a line with each key that can have it.
+pub fn require_all(seen: &Seen) -> Result<(), String> {
+    for (program, names) in [
+        (Program::Encode, &SHEETS[..]),
+        (Program::Expand, &LISTS[..]),
+    ] {
+        for name in names {
+            seen.require(&[&format!("{}, {name}", program.name())])?;
+        }
+    }
+    Ok(())
+}

@@ -1,0 +1,121 @@
+// Sheets and seed lists as lines: of a call, and random lawful ones.
+
+use crate::call::Call;
+use crate::encodes::small;
+use crate::inputs::{fill, shaped};
+use crate::random::Random;
+use crate::runs::pool;
+use crate::text::Program;
+use crate::wide;
+
+/// Lines, each with its line feed.
+pub type Lines = Vec<Vec<u8>>;
+
+fn head(call: &Call) -> Vec<String> {
+    let mut lines = vec![
+        format!("cells={}\n", call.cells),
+        format!("taps={:x}\n", call.taps),
+        format!("chains={}\n", call.masks.len()),
+    ];
+    lines.extend(call.masks.iter().map(|mask| format!("chain={mask:x}\n")));
+    lines
+}
+
+fn as_bytes(lines: Vec<String>) -> Lines {
+    lines.into_iter().map(String::into_bytes).collect()
+}
+
+/// The sheet of a call's cubes.
+pub fn sheet(call: &Call) -> Lines {
+    let mut lines = head(call);
+    lines.push(format!("depth={}\n", call.depth));
+    for (&specified, &bits) in call.specified.iter().zip(&call.bits) {
+        let slice = second::slice_text(call.masks.len(), specified, bits);
+        lines.push(format!("slice={slice}\n"));
+    }
+    as_bytes(lines)
+}
+
+/// The list of a call's stop slice, total and seeds.
+pub fn list(call: &Call) -> Lines {
+    let mut lines = head(call);
+    let stop = second::slice_text(call.masks.len(), call.stop.0, call.stop.1);
+    lines.push(format!("stop={stop}\n"));
+    lines.push(format!("slices={}\n", call.slices));
+    lines.extend(call.seeds.iter().map(|seed| format!("seed={seed:x}\n")));
+    as_bytes(lines)
+}
+
+/// A set of 2,047 or 2,048 slices for up to 64 chains, dense enough that its windows are short.
+fn long(random: &mut Random) -> Call {
+    let chains = [random.between(20, 64), 64][random.between(0, 1)];
+    let mut call = shaped(random, 64, chains);
+    let count = random.between(2_047, 2_048);
+    let percent = [10, 30, 60, 100][random.between(0, 3)];
+    fill(random, &mut call, count, percent);
+    call.depth = [1, count / 8][usize::from(count == 2_048)];
+    call
+}
+
+/// A set of any kind: mostly small, some for up to 64 chains, few as long as can be.
+fn any_set(random: &mut Random) -> Call {
+    let percent = [10, 30, 60, 100][random.between(0, 3)];
+    match random.below(300) {
+        0 => long(random),
+        1..=40 => {
+            let chains = random.between(10, 64);
+            wide::set(random, chains, percent)
+        }
+        41..=80 => {
+            let (cells, chains) = (random.between(1, 64), random.between(1, 64));
+            let mut call = shaped(random, cells, chains);
+            let count = random.between(1, 30);
+            fill(random, &mut call, count, percent);
+            call
+        }
+        _ => small(random, 12),
+    }
+}
+
+/// The call with the second program's stop slice and seeds, if it has them.
+fn encoded(mut call: Call) -> Option<Call> {
+    let mut seeds = vec![0; call.specified.len()];
+    let (specified, bits, count) = call.encode_cubes(&mut seeds).ok()?;
+    seeds.truncate(count);
+    call.stop = (specified, bits);
+    call.slices = call.specified.len();
+    call.seeds = seeds;
+    Some(call)
+}
+
+/// A list of states that run into the stop, in one of two cases with seeds that are refused or with any states.
+fn made(random: &mut Random) -> Call {
+    let (cells, chains) = [(6, 4), (12, 6), (64, 64)][random.between(0, 2)];
+    let pool = pool(random, cells, chains);
+    let (mut call, _) = pool.list(random, 7);
+    for _ in 0..[0, 0, 1, 2][random.between(0, 3)] {
+        let place = random.between(0, call.seeds.len());
+        let seed = match pool.refused.len() {
+            0 => random.bits(call.cells),
+            count => pool.refused[random.between(0, count - 1)].0,
+        };
+        call.seeds.insert(place, seed);
+    }
+    if random.one_in(6) {
+        call.slices = [1, 2_048, call.slices + 1][random.between(0, 2)];
+    }
+    call
+}
+
+/// A random sheet or list; most are lawful.
+pub fn any(random: &mut Random, program: Program) -> Lines {
+    if program == Program::Encode {
+        return sheet(&any_set(random));
+    }
+    if random.one_in(2) {
+        if let Some(call) = encoded(any_set(random)) {
+            return list(&call);
+        }
+    }
+    list(&made(random))
+}
