@@ -77,7 +77,7 @@ unfolding withStop encoding
 stopped-long g masks specified bits out none = refl
 stopped-long g masks specified bits out (some stop) = plan-long _ _ _ out _
 
-encode-long : (g : Settings) (masks : List ℕ) (depth : ℕ) (specified bits out : List ℕ) → length (encodeCubes g masks depth specified bits out .buffer) ≡ length out
+pub encode-long : (g : Settings) (masks : List ℕ) (depth : ℕ) (specified bits out : List ℕ) → length (encodeCubes g masks depth specified bits out .buffer) ≡ length out
 unfolding encodeCubes cubesEncoding
 encode-long g masks depth specified bits out = go (judged (cubesFaults g masks depth specified bits))
   where
@@ -85,7 +85,7 @@ encode-long g masks depth specified bits out = go (judged (cubesFaults g masks d
     go (verdict.Refused c) = refl
     go verdict.WellFormed = stopped-long g masks specified bits out (stopFor (length masks) (paired specified bits))
 
-expand-long : (g : Settings) (masks : List ℕ) (stop : TestSlice) (n : ℕ) (seeds out : List ℕ) → length (expandList g masks stop n seeds out .buffer) ≡ length out
+pub expand-long : (g : Settings) (masks : List ℕ) (stop : TestSlice) (n : ℕ) (seeds out : List ℕ) → length (expandList g masks stop n seeds out .buffer) ≡ length out
 unfolding expandList expanding refuse
 expand-long g masks stop n seeds out = go (judged (listFaults g masks stop n (length seeds)))
   where

@@ -1,0 +1,2 @@
+-- What a seed list says.
+pub mod Written

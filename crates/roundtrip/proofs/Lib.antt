@@ -1,0 +1,3 @@
+-- The laws of accepted encodings, and the theorem.
+pub mod Accepted
+pub mod Whole

@@ -1,0 +1,2 @@
+-- From a sheet to its seed list and back to slices.
+pub mod RoundTrip
