@@ -195,7 +195,11 @@ fn valued(chains: usize, key: Key, value: &[u8]) -> Line
 fn tail(line: &[u8], n: usize) -> &[u8]
     ensures { λ r. ⌜ now r ≡ drop n (now (line .entry)) ⌝ }
 {
-    if n <= line.len() { &line[n..] } else { &line[..0] }
+    if n <= line.len() {
+        &line[n..]
+    } else {
+        &line[..0]
+    }
 }
 
 // What a line with a key says.

@@ -98,6 +98,7 @@ cut-joined c b (line l t) = ⊎-elim inside outside (lt-or-le (length l) b)
     inside h =
         let m : suc b - (suc (length l) + 1) ≡ b - (length l + 1) = omega arith in
         cut-line (suc b) (c ∷ l) t (omega arith) ∙ ap (λ k. line (c ∷ l) (cutAt k t)) m ∙ sym (ap (joined c) (cut-line b l t h))
+
     outside : b ≤ length l → cutAt (suc b) (line (c ∷ l) t) ≡ joined c (cutAt b (line l t))
     outside h = cut-inside (suc b) (c ∷ l) t (omega arith) ∙ sym (ap (joined c) (cut-inside b l t h))
 
@@ -150,6 +151,7 @@ module _ (kind : Kind) where
       where
         inside : length l < b → reading kind p n (cutAt b (line l t)) ≡ reading kind p n (line l t)
         inside g = ap (reading kind p n) (cut-line b l t g) ∙ onward-alike (takenOf (saying p l)) refl _ g
+
         outside : b ≤ length l → reading kind p n (cutAt b (line l t)) ≡ reading kind p n (line l t)
         outside g =
             let m : 0 < length (take b l) = rw (length-take-le b l g) (omega arith) in

@@ -50,6 +50,7 @@ pub enum Scanned {
 
 // The most slice or seed lines, and the greatest depth.
 const MOST_ROWS: usize = 2048;
+
 const MOST_DEPTH: usize = 256;
 
 // Whether two keys are one.
@@ -150,7 +151,11 @@ fn after_mask(kind: Kind, place: Place) -> Key
     requires { ⌜ place .masks + 1 < 2 ^ 64 ⌝ }
     ensures { λ r. ⌜ r ≡ afterMask kind place ⌝ }
 {
-    if place.masks + 1 < place.chains { Key::Chain } else { after_chains(kind) }
+    if place.masks + 1 < place.chains {
+        Key::Chain
+    } else {
+        after_chains(kind)
+    }
 }
 
 // The place with another key due.
@@ -221,11 +226,26 @@ fn refused_at(cause: LineCause, n: usize) -> Refusal
     ensures { λ r. ⌜ r ≡ refusedAt cause n ⌝ }
 {
     match cause {
-        LineCause::Form => Refusal { number: 13, value: n },
-        LineCause::Register => Refusal { number: 1, value: n },
-        LineCause::Chains => Refusal { number: 2, value: n },
-        LineCause::Lengths => Refusal { number: 3, value: n },
-        LineCause::StopSlice => Refusal { number: 5, value: n },
+        LineCause::Form => Refusal {
+            number: 13,
+            value: n,
+        },
+        LineCause::Register => Refusal {
+            number: 1,
+            value: n,
+        },
+        LineCause::Chains => Refusal {
+            number: 2,
+            value: n,
+        },
+        LineCause::Lengths => Refusal {
+            number: 3,
+            value: n,
+        },
+        LineCause::StopSlice => Refusal {
+            number: 5,
+            value: n,
+        },
     }
 }
 
@@ -298,7 +318,15 @@ fn line_end(text: &[u8], from: usize) -> usize
 }
 
 // Keeps the numbers of a line: by the rank of its key, of a chain line among the masks, of a row among the rows.
-fn keep(entry: Entry, place: Place, heads: &mut [u64], tails: &mut [u64], masks: &mut [u64], firsts: &mut [u64], seconds: &mut [u64])
+fn keep(
+    entry: Entry,
+    place: Place,
+    heads: &mut [u64],
+    tails: &mut [u64],
+    masks: &mut [u64],
+    firsts: &mut [u64],
+    seconds: &mut [u64],
+)
     ensures heads { λ _. ⌜ now (heads .exit) ≡ set (now (heads .entry)) (rankOf (entry .key)) (entry .first) ⌝ }
     ensures tails { λ _. ⌜ now (tails .exit) ≡ set (now (tails .entry)) (rankOf (entry .key)) (entry .second) ⌝ }
     ensures masks { λ _. ⌜ now (masks .exit) ≡ storedIf (keyIs key.Chain entry) (now (masks .entry)) (place .masks) (entry .first) ⌝ }

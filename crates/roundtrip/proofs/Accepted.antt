@@ -1,21 +1,19 @@
 -- What an accepted encoding of cubes gives (`encodeCubes`): its seeds, which are words, and that expanding them delivers the set.
 --     Accepted ..       that of an answer with the stop slice and so many seeds
-use mathlib.Core.Bool.{Bool, true, false}
+use mathlib.Core.Bool.{false}
 use mathlib.Core.Option.{Option, none, some}
 use mathlib.Core.Path.{_≡_, refl, sym, ap, _∙_}
-use mathlib.Core.List.{List, [], _∷_, _++_}
-use Prim.Native.Nat.{ℕ, _+_, _≤_, _<_, _^_}
+use mathlib.Core.List.{List, _++_}
+use Prim.Native.Nat.{ℕ, _+_, _≤_, _^_}
 use native.Mathlib.Nat.{le-trans}
 use native.Mathlib.Omega.{arith}
 use lib.ListN.{length, take, drop}
 use lib.Pow.{pow-mono}
 use lib.Seq.{take-append-seam}
 use Rattle.bounded.specs.Bounded.{any}
-use Rattle.bounded.proofs.Tests.{within-yes}
 use Rattle.gf2.specs.Words.{beyond}
-use Rattle.gf2.proofs.Digits.{beyond-no, beyond-wide}
+use Rattle.gf2.proofs.Digits.{beyond-no}
 use Rattle.causes.specs.declared.Cause.{Cause}
-use Rattle.causes.specs.declared.Cause.the-variants as cause
 use Rattle.causes.specs.declared.Written.{Written}
 use Rattle.causes.specs.declared.Written.the-variants as written
 use Rattle.causes.specs.Outcome.{Outcome}
@@ -35,8 +33,7 @@ use Rattle.covering.specs.Rules.{Rules, rules}
 use Rattle.covering.specs.Windows.{CoveredBy}
 use Rattle.expander.specs.Expanding.{expandList}
 use Rattle.encoder.specs.Encoding.{CubesOutcome, stopped, withStop, encodeCubes}
-use Rattle.encoder.specs.Meaning.{Delivers, Listed, SetMeaning, StoppedMeaning}
-use Rattle.encoder.specs.declared.Encoded.{Encoded}
+use Rattle.encoder.specs.Meaning.{Delivers, SetMeaning, StoppedMeaning}
 use Rattle.encoder.specs.declared.Encoded.the-variants as encoded
 use Rattle.encoder.proofs.Cubes.{cubes-means}
 
@@ -90,6 +87,7 @@ module _ (g : Settings) (masks : List ℕ) (depth : ℕ) (ps bs out : List ℕ) 
       by-stop : judged (cubesFaults g masks depth ps bs) ≡ verdict.WellFormed → (s : Option TestSlice) → stopFor (length masks) (paired ps bs) ≡ s → Accepted g masks ps bs out stop n (o .buffer)
       by-stop w none q = absurd (refused-seeds _ stop n (sym (ap (λ (x : CubesOutcome). x .answer) (cubes-means g masks ps bs out depth .unstopped w q .0)) ∙ e))
       by-stop w (some st) q = stopped-accepted st stop n (cubes-means g masks ps bs out depth .stopped w st q) e
+
       by-verdict : (v : Verdict) → judged (cubesFaults g masks depth ps bs) ≡ v → Accepted g masks ps bs out stop n (o .buffer)
       by-verdict (verdict.Refused c) w = absurd (refused-seeds c stop n (sym (ap (λ (x : CubesOutcome). x .answer) (cubes-means g masks ps bs out depth .refused c w)) ∙ e))
       by-verdict verdict.WellFormed w = by-stop w (stopFor (length masks) (paired ps bs)) refl

@@ -1,7 +1,7 @@
 -- The round trip: the list that is printed for an accepted sheet, read back and expanded, gives as many slices as the sheet has, each agreeing with the sheet's.
 use mathlib.Core.Bool.{true, false}
-use mathlib.Core.Path.{_≡_, refl, sym, ap, _∙_}
-use mathlib.Core.List.{List, _++_}
+use mathlib.Core.Path.{_≡_, refl, ap, _∙_}
+use mathlib.Core.List.{List}
 use Prim.Native.Nat.{ℕ, _≤_, _<_}
 use native.Mathlib.Omega.{arith}
 use borrow.Author.Tests.{not-false}
@@ -10,9 +10,7 @@ use lib.Seq.{take-append-seam}
 use Rattle.bounded.specs.Bounded.{within}
 use Rattle.bounded.proofs.Tests.{within-yes}
 use Rattle.causes.specs.declared.Refusal.{Refusal}
-use Rattle.causes.specs.declared.Written.the-variants as written
 use Rattle.causes.specs.Outcome.{Outcome, fill}
-use Rattle.causes.specs.Sheet.{refusalOf}
 use Rattle.causes.proofs.Outcome.{fill-whole}
 use Rattle.register.specs.Machine.{base}
 use Rattle.slices.specs.declared.TestSlice.{TestSlice}
@@ -21,25 +19,22 @@ use Rattle.slices.proofs.Formed.{slices-length}
 use Rattle.checks.specs.Lengths.{badSet}
 use Rattle.checks.proofs.Stopped.{set-formed}
 use Rattle.keys.specs.declared.Key.the-variants as key
-use Rattle.expander.specs.Expanding.{expandList}
 use Rattle.encoder.specs.Encoding.{CubesOutcome, encodeCubes}
-use Rattle.encoder.specs.Meaning.{Delivers}
 use Rattle.encoder.specs.declared.Encoded.{Encoded}
 use Rattle.encoder.specs.declared.Encoded.the-variants as encodings
-use Rattle.reading.specs.Reading.{Reading, readingOf}
+use Rattle.reading.specs.Reading.{readingOf}
 use Rattle.reading.specs.Said.{masksOf, rowsOf, rowBitsOf, numberFor}
 use Rattle.reading.specs.declared.Kind.the-variants as kinds
-use Rattle.reading.specs.declared.Place.{Place}
 use Rattle.reading.specs.declared.Scanned.{Scanned}
 use Rattle.reading.specs.declared.Scanned.the-variants as scanned
 use Rattle.writing.specs.Writing.{sliceLines, listText}
-use Rattle.readback.specs.Written.{entriesOf, Printable}
+use Rattle.readback.specs.Written.{Printable}
 use Rattle.readback.proofs.Whole.{read-back}
 use Rattle.readback.proofs.Said.{masks-back, rows-back, cells-back, taps-back, slices-back, stop-back}
 use Rattle.text.specs.Replies.{Reply, text, refused, lent, listReply, slicesReply, encoded, expanded, sheetReply, seedListReply, concluded, encodeReply, expandReply}
 use Rattle.text.proofs.Space.{encode-long}
 use Rattle.roundtrip.specs.RoundTrip.{sheetOf, GivesBack}
-use Rattle.roundtrip.proofs.Accepted.{Accepted, cubes-accepted}
+use Rattle.roundtrip.proofs.Accepted.{cubes-accepted}
 
 -- ---- the printed list, read and expanded
 
@@ -57,7 +52,7 @@ delivered-reply chains vs o e h =
 
 -- ---- from the sheet's entries
 
-set-total : (n : ℕ) → badSet n ≡ false → within 1 2048 n ≡ true
+pub set-total : (n : ℕ) → badSet n ≡ false → within 1 2048 n ≡ true
 unfolding badSet
 set-total n e = not-false _ e
 

@@ -70,9 +70,9 @@ walk-long n out (ran vs) = go (eqb (length vs) n)
     go false = refl
 
 stopped-long : (g : Settings) (masks specified bits out : List ℕ) (o : Option TestSlice) → length ((elim o as (λ _. CubesOutcome) [
-    | none ↦ record { answer = encodings.Refused SlicesIn; buffer = out }
-    | some stop ↦ withStop stop (encoding (machine g masks) (rules g stop) (paired specified bits) out)
-  ]) .buffer) ≡ length out
+  | none ↦ record { answer = encodings.Refused SlicesIn; buffer = out }
+  | some stop ↦ withStop stop (encoding (machine g masks) (rules g stop) (paired specified bits) out)
+]) .buffer) ≡ length out
 unfolding withStop encoding
 stopped-long g masks specified bits out none = refl
 stopped-long g masks specified bits out (some stop) = plan-long _ _ _ out _

@@ -31,7 +31,15 @@ fn answered(entries: usize, written: Written) -> Answer
 }
 
 // Writes the list of an encoding.
-fn reply_list(cells: usize, taps: u64, masks: &[u64], slices: usize, seeds: &[u64], encoded: Encoded, out: &mut [u8]) -> Answer
+fn reply_list(
+    cells: usize,
+    taps: u64,
+    masks: &[u64],
+    slices: usize,
+    seeds: &[u64],
+    encoded: Encoded,
+    out: &mut [u8],
+) -> Answer
     requires { ⌜ (length (now masks) ≤ 64) × (length (now seeds) ≤ 2048) ⌝ }
     ensures answer { λ r. ⌜ r ≡ called (listReply (base cells taps) (now (masks .entry)) slices (now (seeds .entry)) encoded) (now (out .entry)) .answer ⌝ }
     ensures buffer { λ _. ⌜ now (out .exit) ≡ called (listReply (base cells taps) (now (masks .entry)) slices (now (seeds .entry)) encoded) (now (out .entry)) .buffer ⌝ }
@@ -39,7 +47,15 @@ fn reply_list(cells: usize, taps: u64, masks: &[u64], slices: usize, seeds: &[u6
     match encoded {
         Encoded::Seeds(stop, n) => {
             let count = bounded::lesser(n, seeds.len());
-            let written = writing::write_list(out, cells, taps, masks, stop, slices, &seeds[..count]);
+            let written = writing::write_list(
+                out,
+                cells,
+                taps,
+                masks,
+                stop,
+                slices,
+                &seeds[..count],
+            );
             answered(n, written)
         }
         Encoded::Refused(cause) => Answer::Refused(causes::refusal_of(cause)),
@@ -63,7 +79,15 @@ fn reply_slices(chains: usize, slices: &[u64], written: Written, out: &mut [u8])
 }
 
 // Encodes what a sheet says.
-fn encode_said(cells: usize, taps: u64, masks: &[u64], depth: usize, specified: &[u64], bits: &[u64], out: &mut [u8]) -> Answer
+fn encode_said(
+    cells: usize,
+    taps: u64,
+    masks: &[u64],
+    depth: usize,
+    specified: &[u64],
+    bits: &[u64],
+    out: &mut [u8],
+) -> Answer
     requires { ⌜ length (now masks) ≤ 64 ⌝ }
     ensures answer { λ r. ⌜ r ≡ called (encoded cells taps (now (masks .entry)) depth (now (specified .entry)) (now (bits .entry))) (now (out .entry)) .answer ⌝ }
     ensures buffer { λ _. ⌜ now (out .exit) ≡ called (encoded cells taps (now (masks .entry)) depth (now (specified .entry)) (now (bits .entry))) (now (out .entry)) .buffer ⌝ }
@@ -74,7 +98,15 @@ fn encode_said(cells: usize, taps: u64, masks: &[u64], depth: usize, specified: 
 }
 
 // Expands what a seed list says.
-fn expand_said(cells: usize, taps: u64, masks: &[u64], stop: TestSlice, slices: usize, seeds: &[u64], out: &mut [u8]) -> Answer
+fn expand_said(
+    cells: usize,
+    taps: u64,
+    masks: &[u64],
+    stop: TestSlice,
+    slices: usize,
+    seeds: &[u64],
+    out: &mut [u8],
+) -> Answer
     requires { ⌜ length (now masks) ≤ 64 ⌝ }
     ensures answer { λ r. ⌜ r ≡ called (expanded cells taps (now (masks .entry)) stop slices (now (seeds .entry))) (now (out .entry)) .answer ⌝ }
     ensures buffer { λ _. ⌜ now (out .exit) ≡ called (expanded cells taps (now (masks .entry)) stop slices (now (seeds .entry))) (now (out .entry)) .buffer ⌝ }
@@ -102,7 +134,15 @@ pub fn encode_text(text: &[u8], out: &mut [u8]) -> Answer
     let mut masks = [0u64; 64];
     let mut firsts = [0u64; 2048];
     let mut seconds = [0u64; 2048];
-    match reading::scan(Kind::Sheet, text, &mut heads, &mut tails, &mut masks, &mut firsts, &mut seconds) {
+    match reading::scan(
+        Kind::Sheet,
+        text,
+        &mut heads,
+        &mut tails,
+        &mut masks,
+        &mut firsts,
+        &mut seconds,
+    ) {
         Scanned::Whole(place) => encode_said(
             number(&heads, Key::Cells) as usize,
             number(&heads, Key::Taps),
@@ -126,7 +166,15 @@ pub fn expand_text(text: &[u8], out: &mut [u8]) -> Answer
     let mut masks = [0u64; 64];
     let mut firsts = [0u64; 2048];
     let mut seconds = [0u64; 2048];
-    match reading::scan(Kind::SeedList, text, &mut heads, &mut tails, &mut masks, &mut firsts, &mut seconds) {
+    match reading::scan(
+        Kind::SeedList,
+        text,
+        &mut heads,
+        &mut tails,
+        &mut masks,
+        &mut firsts,
+        &mut seconds,
+    ) {
         Scanned::Whole(place) => {
             let stop = TestSlice {
                 specified: number(&heads, Key::Stop),

@@ -202,6 +202,7 @@ fn put_refusal(out: &mut [u8], at: usize, refusal: Refusal) -> usize
 }
 
 // The seed list in a lent buffer, or cause 9 with the bytes needed.
+// An inner function: its callers show that there are at most 2,048 masks and seeds, so that the bytes needed are a number of the machine.
 pub fn write_list(
     out: &mut [u8],
     cells: usize,
@@ -225,6 +226,7 @@ pub fn write_list(
 }
 
 // The slices that expanding gives in a lent buffer, or cause 9 with the bytes needed.
+// An inner function: its callers show that there are at most 64 chains and 2,048 slices.
 pub fn write_slices(out: &mut [u8], chains: usize, slices: &[u64]) -> Written
     requires { ⌜ (chains ≤ 64) × (length (now slices) ≤ 2048) ⌝ }
     ensures answer { λ r. ⌜ r ≡ fill (sliceLines chains (now (slices .entry))) (now (out .entry)) .answer ⌝ }

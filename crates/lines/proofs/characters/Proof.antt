@@ -18,7 +18,7 @@ sliced-requires : tie.Need-sliced-requires
 sliced-requires c κs = search needs
 
 returns-3 : tie.Need-returns-3
-returns-3 c = 
+returns-3 c =
     let e = c .before .before in
     c .sliced .ensures ∙ ap (sliced _) (c .before .row-of .ensures) ∙ sym (characters-right _ _ _ (e .before .if1 .left) (e .if2 .left))
 

@@ -24,7 +24,7 @@ valued-requires : tie.Need-valued-requires
 valued-requires c κs = search needs
 
 returns-2 : tie.Need-returns-2
-returns-2 c = 
+returns-2 c =
     let e = c .before .before .before in
     let a = e .before .before .before .args in
     let h : length (a .line .now) < longest (a .key) = rw (← (e .before .longest .ensures)) (e .if1 .left) in

@@ -19,18 +19,18 @@ shared-slice-read-if3 : tie.Need-shared-slice-read-if3
 shared-slice-read-if3 c = search needs
 
 returns-2 : tie.Need-returns-2
-returns-2 c = 
+returns-2 c =
     let e = c .before .before .before in
     sym (number-zero _ _ _ (sym (e .before .within .ensures) ∙ not-false _ (e .if1 .left)) (zero-leads _ (c .before .before .if2 .taken) (c .if3 .taken)))
 
 digits-requires : tie.Need-digits-requires
-digits-requires c κs = 
+digits-requires c κs =
     let e = c .before in
     let pre = e .before .before .before .pre in
     (pre .0, le-trans (pow-le-pow-right (pre .0) (within-yes _ _ _ (sym (e .before .within .ensures) ∙ not-false _ (e .if1 .left)) .1)) (pre .1))
 
 returns-3 : tie.Need-returns-3
-returns-3 c = 
+returns-3 c =
     let e = c .before .before in
     let w = sym (e .before .within .ensures) ∙ not-false _ (e .if1 .left) in
     c .digits .ensures ∙ sym (number-digits _ _ _ w (no-zero-leads _ (⊎-elim (λ w. inr (w .2 .left)) (λ w. inl (w .left)) (c .before .if2 .came))))

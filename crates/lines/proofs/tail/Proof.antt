@@ -20,14 +20,14 @@ slice-aggregate-result : tie.Need-slice-aggregate-result
 slice-aggregate-result c = search needs
 
 returns : tie.Need-returns
-returns c = 
+returns c =
     let l = c .before .before .args .line .now in
     let n = c .before .before .args .n in
     let h : length (drop n l) ≤ length l - n = simp length-drop (omega arith) in
     take-all (length l - n) (drop n l) h
 
 returns-2 : tie.Need-returns-2
-returns-2 c = 
+returns-2 c =
     let h : length (c .before .before .args .line .now) ≤ c .before .before .args .n = omega arith in
     sym (drop-of-length-le _ h)
 

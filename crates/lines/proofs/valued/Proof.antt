@@ -33,17 +33,17 @@ characters-requires : tie.Need-characters-requires
 characters-requires c κs = search needs
 
 returns : tie.Need-returns
-returns c = 
+returns c =
     let t = c .before .before in
     c .numbered .ensures ∙ ap (numbered _) (c .before .number .ensures) ∙ sym (valued-decimal _ _ _ (sym (t .before .before .notation-of .ensures) ∙ t .enum-told .given .1))
 
 returns-2 : tie.Need-returns-2
-returns-2 c = 
+returns-2 c =
     let t = c .before .before in
     c .numbered2 .ensures ∙ ap (numbered _) (c .before .number2 .ensures) ∙ sym (valued-hexadecimal _ _ _ (sym (t .before .before .notation-of .ensures) ∙ t .enum-told2 .given .1))
 
 returns-3 : tie.Need-returns-3
-returns-3 c = 
+returns-3 c =
     let t = c .before in
     c .characters .ensures ∙ sym (valued-chainwise _ _ _ (sym (t .before .before .notation-of .ensures) ∙ t .enum-told3 .given .1))
 

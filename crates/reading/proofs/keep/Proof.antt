@@ -3,58 +3,44 @@ use Rattle.reading.proofs.keep.Statement.{statement}
 use Rattle.reading.proofs.keep.Tie as tie
 use Rattle.reading.specs.Said.{storedIf}
 
-
 rank-requires : tie.Need-rank-requires
 rank-requires c κs = search needs
-
 
 store-requires : tie.Need-store-requires
 store-requires c κs = search needs
 
-
 store-requires-2 : tie.Need-store-requires-2
 store-requires-2 c κs = search needs
-
 
 same-requires : tie.Need-same-requires
 same-requires c κs = search needs
 
-
 store-requires-3 : tie.Need-store-requires-3
 store-requires-3 c κs = search needs
-
 
 is-row-requires : tie.Need-is-row-requires
 is-row-requires c κs = search needs
 
-
 store-requires-4 : tie.Need-store-requires-4
 store-requires-4 c κs = search needs
-
 
 store-requires-5 : tie.Need-store-requires-5
 store-requires-5 c κs = search needs
 
-
 same-length : tie.Need-same-length
 same-length c = search needs
-
 
 same-length-2 : tie.Need-same-length-2
 same-length-2 c = search needs
 
-
 same-length-3 : tie.Need-same-length-3
 same-length-3 c = search needs
-
 
 same-length-4 : tie.Need-same-length-4
 same-length-4 c = search needs
 
-
 same-length-5 : tie.Need-same-length-5
 same-length-5 c = search needs
-
 
 returns : tie.Need-returns
 unfolding storedIf

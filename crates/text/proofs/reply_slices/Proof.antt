@@ -2,10 +2,9 @@ use borrow.Author.Needs.{needs}
 use Rattle.text.proofs.reply_slices.Statement.{statement}
 use Rattle.text.proofs.reply_slices.Tie as tie
 use mathlib.Core.Path.{refl, sym}
-use Prim.Native.Nat.{min}
 use native.Mathlib.Nat.{min-le-right}
 use native.Mathlib.Omega.{arith}
-use lib.ListN.{length, take, length-take}
+use lib.ListN.{length, length-take}
 use lib.Seq.{length-take-le}
 use Rattle.text.specs.Replies.{slicesReply}
 use Rattle.text.specs.Calls.{called}

@@ -1,0 +1,217 @@
+-- No text is refused by cause 9: the lent buffer of 2,048 entries has space for every list and for all its slices.
+use mathlib.Core.Bool.{Bool, true, false}
+use mathlib.Core.Option.{Option, none, some}
+use mathlib.Core.Path.{_≡_, refl, sym, ap, _∙_}
+use mathlib.Core.List.{List, [], _∷_}
+use Prim.Native.Nat.{ℕ, _+_, _≤_}
+use native.Mathlib.Omega.{arith}
+use borrow.Author.Tests.{eqb-true}
+use lib.Dec.{eqb}
+use lib.ListN.{length, length-replicate}
+use Rattle.bounded.proofs.Tests.{within-yes}
+use Rattle.causes.specs.declared.Cause.{Cause}
+use Rattle.causes.specs.declared.Cause.the-variants as cause
+use Rattle.causes.specs.declared.Written.{Written}
+use Rattle.causes.specs.declared.Written.the-variants as written
+use Rattle.causes.specs.Outcome.{Outcome, refuse, fill}
+use Rattle.causes.proofs.Outcome.{fill-whole}
+use Rattle.register.specs.declared.Settings.{Settings}
+use Rattle.register.specs.Machine.{machine}
+use Rattle.slices.specs.declared.TestSlice.{TestSlice}
+use Rattle.slices.specs.Slices.{paired}
+use Rattle.slices.proofs.Formed.{slices-length}
+use Rattle.checks.specs.Order.{judged}
+use Rattle.checks.specs.Calls.{setFaults, cubesFaults, listFaults}
+use Rattle.checks.specs.declared.Verdict.{Verdict}
+use Rattle.checks.specs.declared.Verdict.the-variants as verdict
+use Rattle.checks.proofs.Lengths.{list-within}
+use Rattle.checks.proofs.Order.{formed-well}
+use Rattle.checks.proofs.Stopped.{set-formed}
+use Rattle.cutting.proofs.Parts.{covering-length, cuts-count}
+use Rattle.stop.specs.Steps.{stopFor}
+use Rattle.covering.specs.Rules.{rules}
+use Rattle.covering.specs.Windows.{CoveredBy, ok}
+use Rattle.covering.proofs.Windows.{set-bounds}
+use Rattle.expander.specs.Expanding.{Walk, ran, failed, walk, totalled, expanding, expandList}
+use Rattle.encoder.specs.Encoding.{CubesOutcome, stopped, withStop, encodeCubes}
+use Rattle.encoder.specs.Meaning.{Listed, SetMeaning}
+use Rattle.encoder.specs.declared.Encoded.{Encoded}
+use Rattle.encoder.specs.declared.Encoded.the-variants as encodings
+use Rattle.encoder.proofs.Cubes.{cubes-means}
+use Rattle.encoder.proofs.Seeds.{covering-cuts}
+use Rattle.lines.specs.declared.LineCause.{LineCause}
+use Rattle.lines.specs.declared.LineCause.the-variants as lineCause
+use Rattle.lines.specs.declared.Line.{Line}
+use Rattle.lines.specs.declared.Line.the-variants as lines
+use Rattle.reading.specs.Text.{Text, line, rest, split}
+use Rattle.reading.specs.Order.{start, isRow, saying, moved}
+use Rattle.reading.specs.Reading.{causeOf, refusedAt, takenOf, refusalOfLine, onward, endOf, reading, readingOf}
+use Rattle.reading.specs.declared.Entry.{Entry}
+use Rattle.reading.specs.declared.Kind.{Kind}
+use Rattle.reading.specs.declared.Kind.the-variants as kinds
+use Rattle.reading.specs.declared.Place.{Place}
+use Rattle.reading.specs.declared.Scanned.{Scanned}
+use Rattle.reading.specs.declared.Scanned.the-variants as scanned
+use Rattle.reading.specs.declared.Taken.{Taken}
+use Rattle.reading.specs.declared.Taken.the-variants.{Said, Nothing}
+use Rattle.reading.proofs.Ranging.{end-whole, end-early}
+use Rattle.text.specs.Replies.{Reply, refused, lent, listReply, slicesReply, encoded, expanded, sheetReply, seedListReply, concluded, encodeReply, expandReply}
+use Rattle.roundtrip.specs.RoundTrip.{NotShort}
+use Rattle.roundtrip.proofs.Causes.{Other, other-number, judged-other, walk-other}
+use Rattle.roundtrip.proofs.Whole.{set-total}
+
+encoded-is : (c d : Cause) → encodings.Refused c ≡ encodings.Refused d → c ≡ d
+encoded-is c d e = cc
+
+written-is : (c d : Cause) → written.Refused c ≡ written.Refused d → c ≡ d
+written-is c d e = cc
+
+-- ---- a list has no more seeds than slices
+
+listed-few : (g : Settings) (masks : List ℕ) (stop : TestSlice) (ps bs : List ℕ) → judged (setFaults g masks stop ps bs) ≡ verdict.WellFormed → (n : ℕ) → Listed (machine g masks) (rules g stop) (paired ps bs) n → n ≤ 2048
+listed-few g masks stop ps bs f n l =
+    let w = set-formed g masks stop ps bs f in
+    let M = machine g masks in
+    let R = rules g stop in
+    let set = paired ps bs in
+    let c = cuts-count (ok M R set) (length set) (set-bounds M R set) (covering-cuts M R set (l .shortest .covers)) in
+    let e = covering-length (CoveredBy M R set) (l .shortest .covers) in
+    let t = within-yes 1 2048 (length ps) (set-total (length ps) (w .lengths)) in
+    omega (arith, c, e, l .count, slices-length (length masks) ps bs (w .slices), t .1)
+
+-- ---- encoding
+
+-- A cause of the call with the stop slice handed in.
+handed-other : (g : Settings) (masks : List ℕ) (stop : TestSlice) (ps bs : List ℕ) (h : Outcome) → judged (setFaults g masks stop ps bs) ≡ verdict.WellFormed → SetMeaning g masks stop ps bs lent h → (c : Cause) → h .answer ≡ written.Refused c → Other c
+handed-other g masks stop ps bs h f m cause.Register e = tt
+handed-other g masks stop ps bs h f m cause.Chains e = tt
+handed-other g masks stop ps bs h f m cause.Lengths e = tt
+handed-other g masks stop ps bs h f m cause.TestSlice e = tt
+handed-other g masks stop ps bs h f m cause.StopSlice e = tt
+handed-other g masks stop ps bs h f m cause.SlicesIn e = tt
+handed-other g masks stop ps bs h f m cause.NoSeed e = tt
+handed-other g masks stop ps bs h f m (cause.NoCutting n) e = tt
+handed-other g masks stop ps bs h f m (cause.NoSpace n) e =
+    let s = m .meaning f .noSpace n e in
+    let k = listed-few g masks stop ps bs f n (s .0) in
+    omega (arith, k, s .1, length-replicate {A = ℕ} 2048 0)
+handed-other g masks stop ps bs h f m (cause.SeedBeyond n) e = tt
+handed-other g masks stop ps bs h f m (cause.SeedAtStop n) e = tt
+handed-other g masks stop ps bs h f m (cause.SeedEndless n) e = tt
+handed-other g masks stop ps bs h f m (cause.Line n) e = tt
+handed-other g masks stop ps bs h f m (cause.Total n) e = tt
+
+stopped-refused : (stop : TestSlice) (w : Written) (c : Cause) → stopped stop w ≡ encodings.Refused c → w ≡ written.Refused c
+unfolding stopped
+stopped-refused stop (written.Count n) c e = absurd (let z : _≡_ {A = ℕ} 0 1 = cc in omega arith)
+stopped-refused stop (written.Refused d) c e = ap written.Refused (encoded-is d c e)
+
+module _ (g : Settings) (masks : List ℕ) (depth : ℕ) (ps bs : List ℕ) where
+  abbrev o : CubesOutcome
+  o = encodeCubes g masks depth ps bs lent
+
+  encode-other : (c : Cause) → o .answer ≡ encodings.Refused c → Other c
+  unfolding withStop
+  encode-other c e = by-verdict (judged (cubesFaults g masks depth ps bs)) refl
+    where
+      is : (d : Cause) → o .answer ≡ encodings.Refused d → Other d → Other c
+      is d q k = rw (← (encoded-is d c (sym q ∙ e))) k
+
+      by-stop : judged (cubesFaults g masks depth ps bs) ≡ verdict.WellFormed → (s : Option TestSlice) → stopFor (length masks) (paired ps bs) ≡ s → Other c
+      by-stop w none q = is cause.SlicesIn (ap (λ (x : CubesOutcome). x .answer) (cubes-means g masks ps bs lent depth .unstopped w q .0)) tt
+      by-stop w (some st) q =
+          let m = cubes-means g masks ps bs lent depth .stopped w st q in
+          handed-other g masks st ps bs (m .handed) (m .formed) (m .meaning) c (stopped-refused st (m .handed .answer) c (sym (ap (λ (x : CubesOutcome). x .answer) (m .outcome)) ∙ e))
+
+      by-verdict : (v : Verdict) → judged (cubesFaults g masks depth ps bs) ≡ v → Other c
+      by-verdict (verdict.Refused d) w = is d (ap (λ (x : CubesOutcome). x .answer) (cubes-means g masks ps bs lent depth .refused d w)) (judged-other _ d w)
+      by-verdict verdict.WellFormed w = by-stop w (stopFor (length masks) (paired ps bs)) refl
+
+list-not-short : (g : Settings) (masks : List ℕ) (slices : ℕ) (buffer : List ℕ) (a : Encoded) → ((c : Cause) → a ≡ encodings.Refused c → Other c) → NotShort (listReply g masks slices buffer a)
+unfolding listReply
+list-not-short g masks slices buffer (encodings.Seeds stop n) f = tt
+list-not-short g masks slices buffer (encodings.Refused c) f = other-number c (f c refl)
+
+-- ---- expanding
+
+module _ (g : Settings) (masks : List ℕ) (stop : TestSlice) (n : ℕ) (seeds : List ℕ) where
+  total-other : n ≤ 2048 → (w : Walk) → ((c : Cause) → w ≡ failed c → Other c) → (c : Cause) → totalled n lent w .answer ≡ written.Refused c → Other c
+  unfolding totalled refuse
+  total-other h (failed d) f c e = rw (← (written-is d c e)) (f d refl)
+  total-other h (ran vs) f c e = go (eqb (length vs) n) refl e
+    where
+      go : (b : Bool) → eqb (length vs) n ≡ b → (elim b as (λ _. Outcome) [ true ↦ fill vs lent | false ↦ refuse (cause.Total (length vs)) lent ]) .answer ≡ written.Refused c → Other c
+      go true q e =
+          let k = fill-whole vs lent (length vs) refl (let z = eqb-true (length vs) n q in omega (arith, length-replicate {A = ℕ} 2048 0)) in
+          absurd (let z : written.Count (length vs) ≡ written.Refused c = sym (ap (λ (x : Outcome). x .answer) k) ∙ e in let y : _≡_ {A = ℕ} 0 1 = cc in omega arith)
+      go false q e = rw (← (written-is (cause.Total (length vs)) c e)) tt
+
+  few : judged (listFaults g masks stop n (length seeds)) ≡ verdict.WellFormed → n ≤ 2048
+  unfolding listFaults
+  few w = list-within n (length seeds) (formed-well (listFaults g masks stop n (length seeds)) w .lengths) .0
+
+  expand-other : (c : Cause) → expandList g masks stop n seeds lent .answer ≡ written.Refused c → Other c
+  unfolding expandList expanding refuse
+  expand-other c e = go (judged (listFaults g masks stop n (length seeds))) refl e
+    where
+      go : (v : Verdict) → judged (listFaults g masks stop n (length seeds)) ≡ v → (elim v as (λ _. Outcome) [ verdict.Refused d ↦ refuse d lent | verdict.WellFormed ↦ expanding (machine g masks) (rules g stop) n seeds lent ]) .answer ≡ written.Refused c → Other c
+      go (verdict.Refused d) w e = rw (← (written-is d c e)) (judged-other _ d w)
+      go verdict.WellFormed w e = total-other (few w) (walk (machine g masks) (rules g stop) n 0 0 seeds) (λ d. walk-other (machine g masks) (rules g stop) n 0 0 seeds d) c e
+
+slices-not-short : (chains : ℕ) (buffer : List ℕ) (a : Written) → ((c : Cause) → a ≡ written.Refused c → Other c) → NotShort (slicesReply chains buffer a)
+unfolding slicesReply
+slices-not-short chains buffer (written.Count n) f = tt
+slices-not-short chains buffer (written.Refused c) f = other-number c (f c refl)
+
+-- ---- lines
+
+line-number : (c : LineCause) (n : ℕ) → refusedAt c n .number ≡ 9 → ⊥
+unfolding refusedAt causeOf
+line-number lineCause.Form n e = omega arith
+line-number lineCause.Register n e = omega arith
+line-number lineCause.Chains n e = omega arith
+line-number lineCause.Lengths n e = omega arith
+line-number lineCause.StopSlice n e = omega arith
+
+said-number : (l : Line) (n : ℕ) → refusalOfLine l n .number ≡ 9 → ⊥
+unfolding refusalOfLine
+said-number (lines.Number k v) n e = line-number lineCause.Form n e
+said-number (lines.Slice k s) n e = line-number lineCause.Form n e
+said-number (lines.Refused c) n e = line-number c n e
+
+-- The end of a reading is a place, or a refusal that is not by 9.
+abbrev EndsWell : Scanned → Type 0
+EndsWell (scanned.Whole p) = Unit {0}
+EndsWell (scanned.Refused r) = r .number ≡ 9 → ⊥
+
+end-well : (p : Place) (n : ℕ) → EndsWell (endOf p n)
+end-well p n = go (isRow (p .due)) refl
+  where
+    go : (b : Bool) → isRow (p .due) ≡ b → EndsWell (endOf p n)
+    go true e = rw (end-whole p n e) tt
+    go false e = rw (end-early p n e) (line-number lineCause.Form n)
+
+reading-well : (kind : Kind) (t : Text) (p : Place) (n : ℕ) → EndsWell (reading kind p n t .end)
+unfolding reading
+reading-well kind (rest []) p n = end-well p n
+reading-well kind (rest (b ∷ o)) p n = line-number lineCause.Form n
+reading-well kind (line l t) p n = go (takenOf (saying p l)) (λ e. reading-well kind t (moved kind p (e .key) (e .first)) (n + 1))
+  where
+    go : (a : Taken) → ((e : Entry) → EndsWell (reading kind (moved kind p (e .key) (e .first)) (n + 1) t .end)) → EndsWell (onward a (λ e. reading kind (moved kind p (e .key) (e .first)) (n + 1) t) (scanned.Refused (refusalOfLine (saying p l) n)) .end)
+    go (Said e) ih = ih e
+    go Nothing ih = said-number (saying p l) n
+
+concluded-not-short : (end : Scanned) (r : Reply) → EndsWell end → NotShort r → NotShort (concluded end r)
+unfolding concluded
+concluded-not-short (scanned.Whole p) r w s = s
+concluded-not-short (scanned.Refused c) r w s = w
+
+-- ---- the two programs
+
+pub encode-not-short : (s : List ℕ) → NotShort (encodeReply s)
+unfolding encodeReply sheetReply encoded readingOf
+encode-not-short s = concluded-not-short _ _ (reading-well kinds.Sheet (split s) start 1) (list-not-short _ _ _ _ _ (encode-other _ _ _ _ _))
+
+pub expand-not-short : (s : List ℕ) → NotShort (expandReply s)
+unfolding expandReply seedListReply expanded readingOf
+expand-not-short s = concluded-not-short _ _ (reading-well kinds.SeedList (split s) start 1) (slices-not-short _ _ _ (expand-other _ _ _ _ _))
