@@ -39,7 +39,7 @@ pub data Reply : Type 0 where
   text : List ℕ → ℕ → Reply
   refused : Refusal → Reply
 
--- There is always space: a set has no more seeds than slices, and an accepted list as many slices as it says.
+-- There is always space: a set has no more seeds than slices, and an accepted list as many slices as it says (proved in roundtrip, Space).
 abbrev pub lent : List ℕ
 lent = replicate mostSlices 0
 
