@@ -7,7 +7,7 @@
 --     alike          two tests, each true where the other is, are one
 --     neither        a disjunction is false, and its parts are
 --     either, or-right     a disjunction is true, and one of its parts is
---     within-yes, below-within     what "low to high" says
+--     within-yes, below-within, above-within, within-holds     what "low to high" says
 -- Assumes nothing.
 use mathlib.Core.Path.{_≡_, refl, sym}
 use mathlib.Core.Logic.{_⊎_, inl, inr}
@@ -15,7 +15,7 @@ use mathlib.Core.Bool.{Bool, true, false, _&&_, _||_}
 use Prim.Native.Nat.{ℕ, _≤_, _<_}
 use native.Mathlib.Omega.{arith}
 use lib.Dec.{ltb, leb, eqb}
-use borrow.Author.Tests.{ltb-true, ltb-false, leb-true, lt-leb, eqb-true, eqb-false}
+use borrow.Author.Tests.{ltb-true, ltb-false, leb-true, le-leb, lt-leb, eqb-true, eqb-false}
 use Rattle.bounded.specs.Bounded.{within}
 
 pub clash : (b : Bool) → b ≡ true → b ≡ false → ⊥
@@ -72,3 +72,11 @@ within-yes low high n t =
 pub below-within : (low high n : ℕ) → n < low → within low high n ≡ false
 unfolding within
 below-within low high n h = rw (lt-leb low n h)
+
+pub above-within : (low high n : ℕ) → high < n → within low high n ≡ false
+unfolding within
+above-within low high n h = fails (leb low n && leb n high) (λ t. clash (leb n high) (both (leb low n) (leb n high) t .1) (lt-leb n high h))
+
+pub within-holds : (low high n : ℕ) → low ≤ n → n ≤ high → within low high n ≡ true
+unfolding within
+within-holds low high n h g = and-yes (leb low n) (leb n high) (le-leb low n h) (le-leb n high g)

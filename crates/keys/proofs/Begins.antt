@@ -1,4 +1,5 @@
 -- Whether a line begins with a name, byte by byte (`starts`): while both go on alike, where they differ, where the line ends first, and where the name ends.
+-- Assumes nothing.
 use mathlib.Core.Bool.{true, false}
 use mathlib.Core.Path.{_≡_}
 use mathlib.Core.List.{List}

@@ -1,4 +1,5 @@
 -- A test that holds of two keys says that they are one (`same`).
+-- Assumes nothing.
 use mathlib.Core.Bool.{true}
 use mathlib.Core.Path.{_≡_, refl, sym, ap, _∙_}
 use Prim.Native.Nat.{ℕ}

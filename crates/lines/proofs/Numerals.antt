@@ -1,4 +1,5 @@
 -- The number that digits say, digit by digit (`digits`): one digit more, a byte that is none, the end; that it stays within a word; and when a number is out of form (`number`).
+-- Assumes nothing.
 use mathlib.Core.Bool.{true, false}
 use mathlib.Core.Logic.{_⊎_, inl, inr}
 use mathlib.Core.Path.{_≡_, refl}

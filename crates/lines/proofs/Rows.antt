@@ -1,4 +1,5 @@
 -- The slice that characters say, from the last character to the first (`rowOf`): the start, one character more in front, a byte that is none, the end; and that its numbers stay within a word.
+-- Assumes nothing.
 use mathlib.Core.Bool.{Bool, true, false}
 use mathlib.Core.Path.{_≡_, ap}
 use mathlib.Core.List.{List, [], _∷_}

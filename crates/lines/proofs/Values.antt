@@ -1,4 +1,5 @@
 -- What a value says for its key, case by case (`characters`, `valued`, `keyed`), and what a line says by its key (`formed`).
+-- Assumes nothing.
 use mathlib.Core.Path.{_≡_}
 use mathlib.Core.List.{List}
 use Prim.Native.Nat.{ℕ, _+_, _≤_, _<_}

@@ -5,6 +5,7 @@
 --     number-formed    a number in the key's notation is read as the number
 --     decimal-formed, hexadecimal-formed      the two notations
 --     slice-formed     a well-formed slice is read as the slice
+-- Assumes nothing.
 use mathlib.Core.Path.{_≡_, refl, ap, _∙_}
 use mathlib.Core.List.{List, _++_}
 use mathlib.Core.Bool.{false}

@@ -5,6 +5,7 @@
 --     line-text           a line that is written, and the text after it
 --     value-reads         a line with a key and its value
 --     number-reads, slice-reads      a line with a number, and one with a slice
+-- Assumes nothing.
 use mathlib.Core.Bool.{true, false}
 use mathlib.Core.Path.{_≡_, ap, _∙_}
 use mathlib.Core.List.{List, [], _∷_, _++_, append-assoc}
@@ -19,7 +20,7 @@ use Rattle.lines.specs.Form.{formed}
 use Rattle.lines.specs.declared.Line.the-variants.{Number, Slice}
 use Rattle.reading.specs.Text.{split}
 use Rattle.reading.specs.Order.{isRow, outOfRange, ranged, saying, moved}
-use Rattle.reading.specs.Reading.{stops, told, onward, takenOf, refusalOfLine, reading}
+use Rattle.reading.specs.Reading.{entry, stops, told, onward, takenOf, refusalOfLine, reading}
 use Rattle.reading.specs.declared.Kind.the-variants.{SeedList}
 use Rattle.reading.specs.declared.Place.{Place}
 use Rattle.reading.specs.declared.Entry.{Entry}
@@ -30,7 +31,6 @@ use Rattle.reading.proofs.Ranging.{tested-right, end-whole}
 use Rattle.reading.proofs.Counting.{placeAt}
 use Rattle.writing.specs.Numerals.{numeral, characters}
 use Rattle.writing.specs.Writing.{numberLine, sliceLine}
-use Rattle.readback.specs.Written.{entry}
 use Rattle.readback.proofs.Splitting.{isFeed, plain-append, name-plain, numeral-plain, characters-plain, split-feed}
 
 abbrev pub Reads : Place → List ℕ → List Entry → Place → Type 0

@@ -1,5 +1,4 @@
 -- Numbers are read back (`numeral`, `number`), for every base from 2 to 16.
---     within-holds, above-within     when a number is one of low .. high, and when it is above
 --     glyph-low, glyph-high, glyph-above     the byte of a digit below 10, of one from 10 on, and of any
 --     worth-low, worth-high, worth-glyph     what these bytes are worth; a digit that is written is worth what it was
 --     digit-first, digits-more     the digits of a number below the base, and those of a greater one
@@ -9,31 +8,23 @@
 --     digits-back       the digits of a number say it
 --     first-counts, none-leads     no 0 stands before them
 --     number-back       the numeral of a number is read as the number
-use mathlib.Core.Bool.{Bool, true, false, _&&_}
+-- Assumes nothing.
+use mathlib.Core.Bool.{Bool, true, false}
 use mathlib.Core.Logic.{inl, inr, ⊎-elim}
 use mathlib.Core.Path.{_≡_, ap, _∙_}
 use mathlib.Core.List.{List, [], _∷_, _++_}
 use Prim.Native.Nat.{ℕ, zero, suc, _+_, _-_, _*_, _/_, _%_, _^_, _≤_, _<_}
 use native.Mathlib.Nat.{zero-add, zero-mul, mod-lt, pow-zero, pow-le-pow-right, div-add-mod', le-div-iff-mul-le}
 use native.Mathlib.Omega.{arith}
-use borrow.Author.Tests.{lt-ltb, le-ltb, le-leb, lt-leb}
-use lib.Dec.{ltb, leb}
+use borrow.Author.Tests.{lt-ltb, le-ltb}
+use lib.Dec.{ltb}
 use lib.ListN.{length, getD, length-append, List·getD-append}
-use Rattle.bounded.specs.Bounded.{within}
-use Rattle.bounded.proofs.Tests.{clash, fails, both, and-yes, lt-or-le}
+use Rattle.bounded.proofs.Tests.{lt-or-le, above-within, within-holds}
 use Rattle.lines.specs.Numbers.{worth, digits, leadingZero, number}
 use Rattle.lines.specs.declared.Numeral.the-variants.{Value, Nothing}
 use Rattle.lines.proofs.Numerals.{no-zero-leads, number-digits}
 use Rattle.writing.specs.Numerals.{glyph, lastDigits, numeral}
 use Rattle.writing.proofs.Digits.{digit-room, digit-less}
-
-within-holds : (low high n : ℕ) → low ≤ n → n ≤ high → within low high n ≡ true
-unfolding within
-within-holds low high n h g = and-yes (leb low n) (leb n high) (le-leb low n h) (le-leb n high g)
-
-above-within : (low high n : ℕ) → high < n → within low high n ≡ false
-unfolding within
-above-within low high n h = fails (leb low n && leb n high) (λ t. clash (leb n high) (both (leb low n) (leb n high) t .1) (lt-leb n high h))
 
 glyph-low : (d : ℕ) → d < 10 → glyph d ≡ d + 48
 unfolding glyph

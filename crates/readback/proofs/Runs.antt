@@ -4,6 +4,7 @@
 --     mask-word             a mask that is not refused is a word
 --     masks-read            the chain lines from a place on
 --     seeds-read            the seed lines from a place on
+-- Assumes nothing.
 use mathlib.Core.Bool.{true, false}
 use mathlib.Core.Path.{_≡_, refl}
 use mathlib.Core.List.{List, [], _∷_, _++_, map, append-assoc}
@@ -26,7 +27,7 @@ use Rattle.reading.specs.declared.Place.{Place}
 use Rattle.reading.specs.declared.Entry.{Entry}
 use Rattle.reading.proofs.Counting.{placeAt}
 use Rattle.writing.specs.Writing.{numberLine, numberLines}
-use Rattle.readback.specs.Written.{entry}
+use Rattle.reading.specs.Reading.{entry}
 use Rattle.readback.proofs.Forms.{hexadecimal-formed}
 use Rattle.readback.proofs.Lines.{Reads, reads-end, number-reads}
 

@@ -3,6 +3,7 @@
 --     picked-none, picked-all      of lines with one key none is picked, or all are
 --     picked-parts, picked-between      the picked of a seed list's entries after the first three, and those of a key with one line among them
 --     masks-back, rows-back, cells-back, taps-back, slices-back, stop-back      the numbers by their keys
+-- Assumes nothing.
 use mathlib.Core.Bool.{Bool, true, false}
 use mathlib.Core.Path.{_≡_, refl, ap, ap₂, _∙_}
 use mathlib.Core.List.{List, [], _∷_, _++_, map, append-nil}
@@ -14,7 +15,8 @@ use Rattle.keys.specs.declared.Key.the-variants as key
 use Rattle.reading.specs.Order.{isRow}
 use Rattle.reading.specs.Said.{keyIs, rowIs, picked, masksOf, rowsOf, lastOr, numberFor, sliceFor}
 use Rattle.reading.specs.declared.Entry.{Entry}
-use Rattle.readback.specs.Written.{entry, entriesOf}
+use Rattle.reading.specs.Reading.{entry}
+use Rattle.readback.specs.Written.{entriesOf}
 
 module _ (p : Entry → Bool) (f : Entry → ℕ) where
   picked-append : (xs ys : List Entry) → picked p f (xs ++ ys) ≡ picked p f xs ++ picked p f ys

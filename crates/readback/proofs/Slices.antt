@@ -3,6 +3,7 @@
 --     front-back      a character in front says the position that it was written for
 --     low-inside, formed-half     a well-formed slice has no bit where its first chain is unspecified, and its half is well-formed
 --     row-back        the characters of a well-formed slice are read as the slice
+-- Assumes nothing.
 use mathlib.Core.Path.{_≡_, refl, ap, ap₂, _∙_}
 use Prim.Native.Nat.{ℕ, zero, suc, _+_, _*_, _/_, _%_, _≤_, _<_}
 use native.Mathlib.Omega.{arith}

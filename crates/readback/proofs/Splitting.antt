@@ -3,6 +3,7 @@
 --     plain-append     two texts without a line feed, one after the other
 --     name-plain, numeral-plain, characters-plain      the parts of a line, and before them glyph-plain, digits-plain, character-plain for theirs
 --     split-feed       a line without a line feed in it, its line feed, and the text after it
+-- Assumes nothing.
 use mathlib.Core.Bool.{Bool, true, false}
 use mathlib.Core.Path.{_≡_, refl}
 use mathlib.Core.List.{List, [], _∷_, _++_}

@@ -3,6 +3,7 @@
 --     tail-reads      the lines from the stop line on are read through
 --     list-reads      so are all lines
 --     read-back       the reading of the whole list
+-- Assumes nothing.
 use mathlib.Core.Bool.{false, not, _||_}
 use mathlib.Core.Path.{_≡_, refl}
 use mathlib.Core.List.{List, _∷_, _++_, map, append-assoc}
@@ -26,13 +27,13 @@ use Rattle.checks.specs.Lengths.{badSet}
 use Rattle.keys.specs.Keys.{name, notation}
 use Rattle.keys.specs.declared.Key.the-variants as key
 use Rattle.reading.specs.Order.{start, outOfRange, moved}
-use Rattle.reading.specs.Reading.{readingOf}
+use Rattle.reading.specs.Reading.{entry, readingOf}
 use Rattle.reading.specs.declared.Kind.the-variants as kinds
 use Rattle.reading.specs.declared.Place.{Place}
 use Rattle.reading.specs.declared.Scanned.the-variants.{Whole}
 use Rattle.reading.proofs.Counting.{placeAt}
 use Rattle.writing.specs.Writing.{numberLine, numberLines, sliceLine, headText, listText}
-use Rattle.readback.specs.Written.{entry, entriesOf, Printable}
+use Rattle.readback.specs.Written.{entriesOf, Printable}
 use Rattle.readback.proofs.Forms.{decimal-formed, hexadecimal-formed, slice-formed}
 use Rattle.readback.proofs.Lines.{Reads, number-reads, slice-reads}
 use Rattle.readback.proofs.Runs.{chain-due, masks-read, seeds-read}

@@ -1,5 +1,4 @@
 -- What the lines of a seed list say (document 01, "Sheet and seed list").
---     entry k a b      the entry of a line with the key k and the numbers a and b
 --     entriesOf        the entries of a seed list, line by line
 --     Printable        what a seed list may be written of
 use mathlib.Core.Path.{_≡_}
@@ -14,12 +13,9 @@ use Rattle.register.specs.Chains.{badChains}
 use Rattle.slices.specs.Slices.{badStop}
 use Rattle.slices.specs.declared.TestSlice.{TestSlice}
 use Rattle.checks.specs.Lengths.{mostSlices, badSet}
-use Rattle.keys.specs.declared.Key.{Key}
 use Rattle.keys.specs.declared.Key.the-variants as key
+use Rattle.reading.specs.Reading.{entry}
 use Rattle.reading.specs.declared.Entry.{Entry}
-
-abbrev pub entry : Key → ℕ → ℕ → Entry
-entry k a b = record { key = k; first = a; second = b }
 
 unfoldable pub entriesOf : ℕ → ℕ → List ℕ → TestSlice → ℕ → List ℕ → List Entry
 entriesOf cells taps masks stop slices seeds =

@@ -1,4 +1,5 @@
 -- A line that is accepted at a place has the key that is due there, its number in range, and at most as many bytes as its key allows.
+-- Assumes nothing.
 use mathlib.Core.Bool.{Bool, true, false}
 use mathlib.Core.Path.{_≡_, refl, sym, ap, _∙_}
 use mathlib.Core.List.{List}

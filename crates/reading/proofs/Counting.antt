@@ -2,6 +2,7 @@
 --     Masked due masks chains    how many masks stand before a place where the key due is due
 --     Sound p                    that, and how many rows stand there
 --     Counts p es q              the place q after the entries es has so many masks and rows more than p
+-- Assumes nothing.
 use mathlib.Core.Bool.{Bool, true, false}
 use mathlib.Core.Path.{_≡_, refl, sym, _∙_}
 use mathlib.Core.List.{List, [], _∷_}
@@ -17,7 +18,7 @@ use Rattle.keys.specs.declared.Key.{Key}
 use Rattle.keys.specs.declared.Key.the-variants as key
 use Rattle.reading.specs.Text.{Text, line, rest, split}
 use Rattle.reading.specs.Order.{start, isRow, outOfRange, saying, afterChains, afterMask, moved}
-use Rattle.reading.specs.Reading.{onward, takenOf, refusalOfLine, endOf, reading, readingOf}
+use Rattle.reading.specs.Reading.{entry, onward, takenOf, refusalOfLine, endOf, reading, readingOf}
 use Rattle.reading.specs.Said.{picked, masksOf, rowsOf, rowBitsOf}
 use Rattle.reading.specs.declared.Kind.{Kind}
 use Rattle.reading.specs.declared.Kind.the-variants as kinds
@@ -76,9 +77,6 @@ pub record Counts (p : Place) (es : List Entry) (q : Place) : Type 0 where
   pub chains : q .masks ≡ q .chains
   pub few : q .chains ≤ 64
   pub most : q .rows ≤ 2048
-
-abbrev entry : Key → ℕ → ℕ → Entry
-entry k a b = record { key = k; first = a; second = b }
 
 -- An entry in front counts at its place.
 count-step : (kind : Kind) (p : Place) (k : Key) (a b : ℕ) (es : List Entry)

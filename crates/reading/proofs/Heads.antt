@@ -1,4 +1,5 @@
 -- The number that is kept at the rank of a key (`keptAll`) is the last that a line says for that key.
+-- Assumes nothing.
 use mathlib.Core.Bool.{Bool, true, false}
 use mathlib.Core.Path.{_≡_, refl, sym, ap, _∙_}
 use mathlib.Core.List.{List, [], _∷_}

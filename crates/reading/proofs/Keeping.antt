@@ -3,6 +3,7 @@
 --     lists h t m f s  the five of them
 --     kept e p l       the lists l with the entry e at the place p
 --     filled l p es    the lists l with the entries es, from the place p on
+-- Assumes nothing.
 use mathlib.Core.Path.{_≡_, refl, sym, ap, _∙_}
 use mathlib.Core.List.{List, [], _∷_}
 use Prim.Native.Nat.{ℕ, _+_, _≤_}
@@ -14,6 +15,7 @@ use Rattle.keys.specs.Keys.{rank, same}
 use Rattle.keys.specs.declared.Key.{Key}
 use Rattle.keys.specs.declared.Key.the-variants as key
 use Rattle.reading.specs.Order.{isRow, moved}
+use Rattle.reading.specs.Reading.{entry}
 use Rattle.reading.specs.Said.{keyIs, rowIs, picked, masksOf, rowsOf, rowBitsOf, storedIf, keptAll}
 use Rattle.reading.specs.declared.Kind.{Kind}
 use Rattle.reading.specs.declared.Place.{Place}
@@ -46,9 +48,6 @@ filled l p es = record {
   firsts = sets (l .firsts) (p .rows) (rowsOf es);
   seconds = sets (l .seconds) (p .rows) (rowBitsOf es);
 }
-
-abbrev pub entry : Key → ℕ → ℕ → Entry
-entry k a b = record { key = k; first = a; second = b }
 
 pub filled-none : (l : Lists) (p : Place) → filled l p [] ≡ l
 unfolding picked keptAll

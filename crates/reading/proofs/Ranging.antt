@@ -1,4 +1,5 @@
 -- What a line says at a place, case by case (`tested`), and the end of a text (`endOf`).
+-- Assumes nothing.
 use mathlib.Core.Bool.{true, false}
 use mathlib.Core.Path.{_≡_}
 use Prim.Native.Nat.{ℕ}

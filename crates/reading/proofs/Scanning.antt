@@ -1,6 +1,7 @@
 -- The loop of `scan`: what is left of the text, read from here on, fills the lists as the whole does.
 --     Left      what holds at the head of the loop
 --     Ends      what a reading leaves
+-- Assumes nothing.
 use mathlib.Core.Path.{_≡_, refl, sym, ap, _∙_}
 use mathlib.Core.List.{List}
 use Prim.Native.Nat.{ℕ, _+_, _-_, _≤_, _<_}

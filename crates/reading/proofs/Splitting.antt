@@ -1,4 +1,5 @@
 -- The first line of a text (`split`, `span`): byte by byte, and at a place of the text.
+-- Assumes nothing.
 use mathlib.Core.Bool.{Bool, true, false}
 use mathlib.Core.Path.{_≡_, refl, ap, _∙_}
 use mathlib.Core.List.{List, [], _∷_}

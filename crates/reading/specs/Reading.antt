@@ -1,6 +1,7 @@
 -- The reading of a whole text (document 01, "Sheet and seed list": "Reading stops at the first refused line"). Lines are numbered from 1.
 --     causeOf c n            the cause of document 01's refusal sheet for the line n that is refused by c
 --     refusedAt c n          its number, with the line
+--     entry k a b            the entry of a line with the key k and the numbers a and b
 --     takenOf said           the entry of a line that is not refused: its key, and its number and 0 or its slice's two numbers
 --     refusalOfLine said n   the refusal of a refused line
 --     Reading                the entries of the lines up to the first refused one, and the end: the place there, or the refusal
@@ -17,6 +18,7 @@ use Rattle.causes.specs.declared.Cause.{Cause}
 use Rattle.causes.specs.declared.Cause.the-variants as cause
 use Rattle.causes.specs.declared.Refusal.{Refusal}
 use Rattle.causes.specs.Sheet.{refusalOf}
+use Rattle.keys.specs.declared.Key.{Key}
 use Rattle.lines.specs.declared.LineCause.{LineCause}
 use Rattle.lines.specs.declared.LineCause.the-variants as lineCause
 use Rattle.lines.specs.declared.Line.{Line}
@@ -42,9 +44,12 @@ causeOf lineCause.StopSlice n = cause.StopSlice
 unfoldable pub refusedAt : LineCause → ℕ → Refusal
 refusedAt c n = record { number = refusalOf (causeOf c n) .number; value = n }
 
+abbrev pub entry : Key → ℕ → ℕ → Entry
+entry k a b = record { key = k; first = a; second = b }
+
 unfoldable pub takenOf : Line → Taken
-takenOf (lines.Number k v) = Said (record { key = k; first = v; second = 0 })
-takenOf (lines.Slice k s) = Said (record { key = k; first = s .specified; second = s .bits })
+takenOf (lines.Number k v) = Said (entry k v 0)
+takenOf (lines.Slice k s) = Said (entry k (s .specified) (s .bits))
 takenOf (lines.Refused c) = Nothing
 
 -- Only a refused line asks for it.

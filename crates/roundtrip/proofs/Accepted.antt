@@ -1,5 +1,6 @@
 -- What an accepted encoding of cubes gives (`encodeCubes`): its seeds, which are words, and that expanding them delivers the set.
 --     Accepted ..       that of an answer with the stop slice and so many seeds
+-- Assumes nothing.
 use mathlib.Core.Bool.{false}
 use mathlib.Core.Option.{Option, none, some}
 use mathlib.Core.Path.{_≡_, refl, sym, ap, _∙_}

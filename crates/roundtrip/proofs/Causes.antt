@@ -1,5 +1,6 @@
 -- Which refusals are not by cause 9: those of the checks (`judged`) and of a walk over seeds (`walk`).
 --     Other c      the cause c is not 9
+-- Assumes nothing.
 use mathlib.Core.Bool.{Bool, true, false, _&&_}
 use mathlib.Core.Option.{Option, none, some}
 use mathlib.Core.Path.{_≡_, refl, sym, _∙_}

@@ -1,4 +1,5 @@
 -- Only the first 169,441 bytes of the input decide what a program prints.
+-- Assumes nothing.
 use mathlib.Core.Path.{_≡_}
 use mathlib.Core.List.{List}
 use Prim.Native.Nat.{ℕ}

@@ -1,4 +1,5 @@
 -- No text is refused by cause 9: the lent buffer of 2,048 entries has space for every list and for all its slices.
+-- Assumes nothing.
 use mathlib.Core.Bool.{Bool, true, false}
 use mathlib.Core.Option.{Option, none, some}
 use mathlib.Core.Path.{_≡_, refl, sym, ap, _∙_}
@@ -8,7 +9,6 @@ use native.Mathlib.Omega.{arith}
 use borrow.Author.Tests.{eqb-true}
 use lib.Dec.{eqb}
 use lib.ListN.{length, length-replicate}
-use Rattle.bounded.proofs.Tests.{within-yes}
 use Rattle.causes.specs.declared.Cause.{Cause}
 use Rattle.causes.specs.declared.Cause.the-variants as cause
 use Rattle.causes.specs.declared.Written.{Written}
@@ -24,7 +24,7 @@ use Rattle.checks.specs.Order.{judged}
 use Rattle.checks.specs.Calls.{setFaults, cubesFaults, listFaults}
 use Rattle.checks.specs.declared.Verdict.{Verdict}
 use Rattle.checks.specs.declared.Verdict.the-variants as verdict
-use Rattle.checks.proofs.Lengths.{list-within}
+use Rattle.checks.proofs.Lengths.{set-within, list-within}
 use Rattle.checks.proofs.Order.{formed-well}
 use Rattle.checks.proofs.Stopped.{set-formed}
 use Rattle.cutting.proofs.Parts.{covering-length, cuts-count}
@@ -58,7 +58,6 @@ use Rattle.reading.proofs.Ranging.{end-whole, end-early}
 use Rattle.text.specs.Replies.{Reply, refused, lent, listReply, slicesReply, encoded, expanded, sheetReply, seedListReply, concluded, encodeReply, expandReply}
 use Rattle.roundtrip.specs.RoundTrip.{NotShort}
 use Rattle.roundtrip.proofs.Causes.{Other, other-number, judged-other, walk-other}
-use Rattle.roundtrip.proofs.Whole.{set-total}
 
 encoded-is : (c d : Cause) → encodings.Refused c ≡ encodings.Refused d → c ≡ d
 encoded-is c d e = cc
@@ -76,7 +75,7 @@ listed-few g masks stop ps bs f n l =
     let set = paired ps bs in
     let c = cuts-count (ok M R set) (length set) (set-bounds M R set) (covering-cuts M R set (l .shortest .covers)) in
     let e = covering-length (CoveredBy M R set) (l .shortest .covers) in
-    let t = within-yes 1 2048 (length ps) (set-total (length ps) (w .lengths)) in
+    let t = set-within (length ps) (w .lengths) in
     omega (arith, c, e, l .count, slices-length (length masks) ps bs (w .slices), t .1)
 
 -- ---- encoding

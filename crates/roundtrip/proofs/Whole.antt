@@ -1,14 +1,12 @@
 -- The round trip: the list that is printed for an accepted sheet, read back and expanded, gives as many slices as the sheet has, each agreeing with the sheet's.
-use mathlib.Core.Bool.{true, false}
+-- Assumes nothing.
+use mathlib.Core.Bool.{true}
 use mathlib.Core.Path.{_≡_, refl, ap, _∙_}
 use mathlib.Core.List.{List}
 use Prim.Native.Nat.{ℕ, _≤_, _<_}
 use native.Mathlib.Omega.{arith}
-use borrow.Author.Tests.{not-false}
 use lib.ListN.{length, getD, take, drop, length-take, length-replicate}
 use lib.Seq.{take-append-seam}
-use Rattle.bounded.specs.Bounded.{within}
-use Rattle.bounded.proofs.Tests.{within-yes}
 use Rattle.causes.specs.declared.Refusal.{Refusal}
 use Rattle.causes.specs.Outcome.{Outcome, fill}
 use Rattle.causes.proofs.Outcome.{fill-whole}
@@ -16,7 +14,7 @@ use Rattle.register.specs.Machine.{base}
 use Rattle.slices.specs.declared.TestSlice.{TestSlice}
 use Rattle.slices.specs.Slices.{agrees, paired}
 use Rattle.slices.proofs.Formed.{slices-length}
-use Rattle.checks.specs.Lengths.{badSet}
+use Rattle.checks.proofs.Lengths.{set-within}
 use Rattle.checks.proofs.Stopped.{set-formed}
 use Rattle.keys.specs.declared.Key.the-variants as key
 use Rattle.encoder.specs.Encoding.{CubesOutcome, encodeCubes}
@@ -52,10 +50,6 @@ delivered-reply chains vs o e h =
 
 -- ---- from the sheet's entries
 
-pub set-total : (n : ℕ) → badSet n ≡ false → within 1 2048 n ≡ true
-unfolding badSet
-set-total n e = not-false _ e
-
 -- What the round trip gives, by what the sheet says.
 record Back (masks ps bs list : List ℕ) : Type 0 where
   slices : List ℕ
@@ -80,7 +74,7 @@ module _ (cells taps : ℕ) (masks : List ℕ) (depth : ℕ) (ps bs : List ℕ) 
       let f = set-formed (base cells taps) masks stop ps bs (a .formed) in
       let d = a .delivers in
       let l = slices-length (length masks) ps bs (f .slices) in
-      let w = within-yes 1 2048 (length ps) (set-total (length ps) (f .lengths)) in
+      let w = set-within (length ps) (f .lengths) in
       let p : Printable cells taps masks stop (length ps) (take n (o .buffer)) = record { register = f .register; chains = f .chains; stopped = f .stop; total = f .lengths; few = omega (arith, length-take n (o .buffer), encode-long (base cells taps) masks depth ps bs lent, length-replicate {A = ℕ} 2048 0); words = a .words } in
       record {
         slices = d .slices;

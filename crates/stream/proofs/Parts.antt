@@ -1,4 +1,5 @@
 -- The part of a buffer from a place on is as long as what is left there.
+-- Assumes nothing.
 use mathlib.Core.Path.{_≡_}
 use mathlib.Core.List.{List}
 use Prim.Native.Nat.{ℕ, _-_, _≤_}

@@ -1,4 +1,5 @@
 -- What a call leaves that writes a list or slices (`called`): the answer to its text, and the buffer.
+-- Assumes nothing.
 use mathlib.Core.Logic.{⊎-elim}
 use mathlib.Core.Path.{_≡_, sym, ap, _∙_}
 use mathlib.Core.List.{List}

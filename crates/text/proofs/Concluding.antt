@@ -1,4 +1,5 @@
 -- From the lists of a reading to what a text call leaves: the reply to what was read, and the refusal of a reading.
+-- Assumes nothing.
 use mathlib.Core.Path.{_≡_, refl, sym, ap, _∙_}
 use mathlib.Core.List.{List}
 use Prim.Native.Nat.{ℕ}

@@ -1,4 +1,5 @@
 -- What stands in the lists after a text is read through: the masks, the rows, and the number for each key.
+-- Assumes nothing.
 use mathlib.Core.Path.{_≡_, sym, ap, _∙_}
 use mathlib.Core.List.{List, _++_}
 use Prim.Native.Nat.{ℕ, _+_, _≤_}

@@ -1,6 +1,7 @@
 -- A buffer of 145,408 bytes has space for everything that the two programs print.
 --     mostText       2,048 slice lines of 64 chains
 --     Within r       the text of the reply r is no longer
+-- Assumes nothing.
 use mathlib.Core.Bool.{Bool, true, false}
 use mathlib.Core.Logic.{⊎-elim}
 use mathlib.Core.Option.{Option, none, some}

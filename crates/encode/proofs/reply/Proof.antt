@@ -1,4 +1,5 @@
--- The buffer has space for whatever is printed.
+-- `encode::reply` meets its contract. The buffer has space for whatever is printed.
+-- Assumes nothing.
 use borrow.Author.Needs.{needs}
 use Rattle.encode.proofs.reply.Statement.{statement}
 use Rattle.encode.proofs.reply.Tie as tie

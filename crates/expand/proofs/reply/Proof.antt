@@ -1,4 +1,5 @@
--- The buffer has space for whatever is printed.
+-- `expand::reply` meets its contract. The buffer has space for whatever is printed.
+-- Assumes nothing.
 use borrow.Author.Needs.{needs}
 use Rattle.expand.proofs.reply.Statement.{statement}
 use Rattle.expand.proofs.reply.Tie as tie

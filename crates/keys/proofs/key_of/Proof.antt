@@ -1,4 +1,5 @@
--- Each key in turn: the line does not begin with those before.
+-- `keys::key_of` meets its contract. Each key in turn: the line does not begin with those before.
+-- Assumes nothing.
 use borrow.Author.Needs.{needs}
 use Rattle.keys.proofs.key_of.Statement.{statement}
 use Rattle.keys.proofs.key_of.Tie as tie

@@ -1,3 +1,4 @@
+-- `keys::longest` meets its contract. Assumes nothing.
 use Rattle.keys.proofs.longest.Statement.{statement}
 use Rattle.keys.proofs.longest.Tie as tie
 use mathlib.Core.Path.{refl}

@@ -1,3 +1,4 @@
+-- `keys::name_length` meets its contract. Assumes nothing.
 use borrow.Author.Needs.{needs}
 use Rattle.keys.proofs.name_length.Statement.{statement}
 use Rattle.keys.proofs.name_length.Tie as tie

@@ -1,3 +1,4 @@
+-- `keys::notation_of` meets its contract. Assumes nothing.
 use borrow.Author.Needs.{needs}
 use Rattle.keys.proofs.notation_of.Statement.{statement}
 use Rattle.keys.proofs.notation_of.Tie as tie

@@ -1,3 +1,4 @@
+-- `keys::rank` meets its contract. Assumes nothing.
 use borrow.Author.Needs.{needs}
 use Rattle.keys.proofs.rank.Statement.{statement}
 use Rattle.keys.proofs.rank.Tie as tie

@@ -1,4 +1,5 @@
--- The invariant: whether the line begins with the name goes by what is left of both.
+-- `keys::starts` meets its contract. The invariant: whether the line begins with the name goes by what is left of both.
+-- Assumes nothing.
 use Rattle.keys.proofs.starts.Statement.{statement}
 use Rattle.keys.proofs.starts.Tie as tie
 use Prim.Native.Nat.{_-_, _≤_}

@@ -1,3 +1,4 @@
+-- `lines::characters` meets its contract. Assumes nothing.
 use borrow.Author.Needs.{needs}
 use Rattle.lines.proofs.characters.Statement.{statement}
 use Rattle.lines.proofs.characters.Tie as tie

@@ -1,4 +1,5 @@
--- The invariant: the digits that are left, after v, say what all say from 0; and v is below a power of the base.
+-- `lines::digits` meets its contract. The invariant: the digits that are left, after v, say what all say from 0; and v is below a power of the base.
+-- Assumes nothing.
 use borrow.Author.Needs.{needs}
 use Rattle.lines.proofs.digits.Statement.{statement}
 use Rattle.lines.proofs.digits.Tie as tie

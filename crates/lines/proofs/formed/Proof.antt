@@ -1,3 +1,4 @@
+-- `lines::formed` meets its contract. Assumes nothing.
 use borrow.Author.Needs.{needs}
 use Rattle.lines.proofs.formed.Statement.{statement}
 use Rattle.lines.proofs.formed.Tie as tie

@@ -1,3 +1,4 @@
+-- `lines::is_character` meets its contract. Assumes nothing.
 use Rattle.lines.proofs.is_character.Statement.{statement}
 use Rattle.lines.proofs.is_character.Tie as tie
 use borrow.Author.Tests.{eq-eqb, ne-eqb}

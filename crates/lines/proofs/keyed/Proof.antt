@@ -1,3 +1,4 @@
+-- `lines::keyed` meets its contract. Assumes nothing.
 use borrow.Author.Needs.{needs}
 use Rattle.lines.proofs.keyed.Statement.{statement}
 use Rattle.lines.proofs.keyed.Tie as tie

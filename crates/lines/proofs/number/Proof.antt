@@ -1,4 +1,5 @@
--- Out of form by its length or by a leading zero; otherwise its digits.
+-- `lines::number` meets its contract. Out of form by its length or by a leading zero; otherwise its digits.
+-- Assumes nothing.
 use borrow.Author.Needs.{needs}
 use Rattle.lines.proofs.number.Statement.{statement}
 use Rattle.lines.proofs.number.Tie as tie

@@ -1,3 +1,4 @@
+-- `lines::numbered` meets its contract. Assumes nothing.
 use borrow.Author.Needs.{needs}
 use Rattle.lines.proofs.numbered.Statement.{statement}
 use Rattle.lines.proofs.numbered.Tie as tie

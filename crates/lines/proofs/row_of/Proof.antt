@@ -1,4 +1,5 @@
--- The invariant: the characters from i on say the slice so far, whose numbers have a digit for each.
+-- `lines::row_of` meets its contract. The invariant: the characters from i on say the slice so far, whose numbers have a digit for each.
+-- Assumes nothing.
 use borrow.Author.Needs.{needs}
 use Rattle.lines.proofs.row_of.Statement.{statement}
 use Rattle.lines.proofs.row_of.Tie as tie

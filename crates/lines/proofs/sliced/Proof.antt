@@ -1,3 +1,4 @@
+-- `lines::sliced` meets its contract. Assumes nothing.
 use borrow.Author.Needs.{needs}
 use Rattle.lines.proofs.sliced.Statement.{statement}
 use Rattle.lines.proofs.sliced.Tie as tie

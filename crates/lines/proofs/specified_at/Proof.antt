@@ -1,3 +1,4 @@
+-- `lines::specified_at` meets its contract. Assumes nothing.
 use Rattle.lines.proofs.specified_at.Statement.{statement}
 use Rattle.lines.proofs.specified_at.Tie as tie
 use borrow.Author.Tests.{eq-eqb, ne-eqb}

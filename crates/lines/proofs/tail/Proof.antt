@@ -1,3 +1,4 @@
+-- `lines::tail` meets its contract. Assumes nothing.
 use borrow.Author.Needs.{needs}
 use Rattle.lines.proofs.tail.Statement.{statement}
 use Rattle.lines.proofs.tail.Tie as tie

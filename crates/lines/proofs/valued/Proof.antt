@@ -1,3 +1,4 @@
+-- `lines::valued` meets its contract. Assumes nothing.
 use borrow.Author.Needs.{needs}
 use Rattle.lines.proofs.valued.Statement.{statement}
 use Rattle.lines.proofs.valued.Tie as tie

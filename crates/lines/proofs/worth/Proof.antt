@@ -1,3 +1,4 @@
+-- `lines::worth` meets its contract. Assumes nothing.
 use borrow.Author.Needs.{needs}
 use Rattle.lines.proofs.worth.Statement.{statement}
 use Rattle.lines.proofs.worth.Tie as tie

@@ -1,3 +1,4 @@
+-- `reading::after_chains` meets its contract. Assumes nothing.
 use borrow.Author.Needs.{needs}
 use Rattle.reading.proofs.after_chains.Statement.{statement}
 use Rattle.reading.proofs.after_chains.Tie as tie

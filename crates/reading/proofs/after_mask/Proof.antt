@@ -1,3 +1,4 @@
+-- `reading::after_mask` meets its contract. Assumes nothing.
 use borrow.Author.Needs.{needs}
 use Rattle.reading.proofs.after_mask.Statement.{statement}
 use Rattle.reading.proofs.after_mask.Tie as tie

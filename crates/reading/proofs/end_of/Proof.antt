@@ -1,3 +1,4 @@
+-- `reading::end_of` meets its contract. Assumes nothing.
 use borrow.Author.Needs.{needs}
 use Rattle.reading.proofs.end_of.Statement.{statement}
 use Rattle.reading.proofs.end_of.Tie as tie

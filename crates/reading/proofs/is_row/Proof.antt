@@ -1,3 +1,4 @@
+-- `reading::is_row` meets its contract. Assumes nothing.
 use borrow.Author.Needs.{needs}
 use Rattle.reading.proofs.is_row.Statement.{statement}
 use Rattle.reading.proofs.is_row.Tie as tie

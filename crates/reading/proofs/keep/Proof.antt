@@ -1,3 +1,4 @@
+-- `reading::keep` meets its contract. Assumes nothing.
 use borrow.Author.Needs.{needs}
 use Rattle.reading.proofs.keep.Statement.{statement}
 use Rattle.reading.proofs.keep.Tie as tie

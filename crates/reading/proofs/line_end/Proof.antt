@@ -1,4 +1,5 @@
--- The invariant: from here on the line ends where it ends from its start.
+-- `reading::line_end` meets its contract. The invariant: from here on the line ends where it ends from its start.
+-- Assumes nothing.
 use Rattle.reading.proofs.line_end.Statement.{statement}
 use Rattle.reading.proofs.line_end.Tie as tie
 use mathlib.Core.Path.{_≡_}

@@ -1,3 +1,4 @@
+-- `reading::moved` meets its contract. Assumes nothing.
 use borrow.Author.Needs.{needs}
 use Rattle.reading.proofs.moved.Statement.{statement}
 use Rattle.reading.proofs.moved.Tie as tie

@@ -1,3 +1,4 @@
+-- `reading::out_of_range` meets its contract. Assumes nothing.
 use borrow.Author.Needs.{needs}
 use Rattle.reading.proofs.out_of_range.Statement.{statement}
 use Rattle.reading.proofs.out_of_range.Tie as tie

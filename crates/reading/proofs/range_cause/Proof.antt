@@ -1,3 +1,4 @@
+-- `reading::range_cause` meets its contract. Assumes nothing.
 use borrow.Author.Needs.{needs}
 use Rattle.reading.proofs.range_cause.Statement.{statement}
 use Rattle.reading.proofs.range_cause.Tie as tie

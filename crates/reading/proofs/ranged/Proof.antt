@@ -1,3 +1,4 @@
+-- `reading::ranged` meets its contract. Assumes nothing.
 use borrow.Author.Needs.{needs}
 use Rattle.reading.proofs.ranged.Statement.{statement}
 use Rattle.reading.proofs.ranged.Tie as tie

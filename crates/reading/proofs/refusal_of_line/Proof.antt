@@ -1,3 +1,4 @@
+-- `reading::refusal_of_line` meets its contract. Assumes nothing.
 use borrow.Author.Needs.{needs}
 use Rattle.reading.proofs.refusal_of_line.Statement.{statement}
 use Rattle.reading.proofs.refusal_of_line.Tie as tie

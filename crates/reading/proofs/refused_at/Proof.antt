@@ -1,3 +1,4 @@
+-- `reading::refused_at` meets its contract. Assumes nothing.
 use borrow.Author.Needs.{needs}
 use Rattle.reading.proofs.refused_at.Statement.{statement}
 use Rattle.reading.proofs.refused_at.Tie as tie

@@ -1,3 +1,4 @@
+-- `reading::same` meets its contract. Assumes nothing.
 use borrow.Author.Needs.{needs}
 use Rattle.reading.proofs.same.Statement.{statement}
 use Rattle.reading.proofs.same.Tie as tie

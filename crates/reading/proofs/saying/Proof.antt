@@ -1,3 +1,4 @@
+-- `reading::saying` meets its contract. Assumes nothing.
 use borrow.Author.Needs.{needs}
 use Rattle.reading.proofs.saying.Statement.{statement}
 use Rattle.reading.proofs.saying.Tie as tie

@@ -1,4 +1,5 @@
--- The invariant: what is left of the text, read from here on, fills the lists as the whole does.
+-- `reading::scan` meets its contract. The invariant: what is left of the text, read from here on, fills the lists as the whole does.
+-- Assumes nothing.
 use Rattle.reading.proofs.scan.Statement.{statement}
 use Rattle.reading.proofs.scan.Tie as tie
 use borrow.Author.Needs.{needs}

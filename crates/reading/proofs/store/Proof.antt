@@ -1,3 +1,4 @@
+-- `reading::store` meets its contract. Assumes nothing.
 use borrow.Author.Needs.{needs}
 use Rattle.reading.proofs.store.Statement.{statement}
 use Rattle.reading.proofs.store.Tie as tie

@@ -1,3 +1,4 @@
+-- `reading::take_apart` meets its contract. Assumes nothing.
 use borrow.Author.Needs.{needs}
 use Rattle.reading.proofs.take_apart.Statement.{statement}
 use Rattle.reading.proofs.take_apart.Tie as tie

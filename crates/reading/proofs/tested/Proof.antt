@@ -1,3 +1,4 @@
+-- `reading::tested` meets its contract. Assumes nothing.
 use borrow.Author.Needs.{needs}
 use Rattle.reading.proofs.tested.Statement.{statement}
 use Rattle.reading.proofs.tested.Tie as tie

@@ -1,3 +1,4 @@
+-- `seeds::seeds_encode_text` meets its contract. Assumes nothing.
 use borrow.Author.Needs.{needs}
 use Rattle.seeds.proofs.seeds_encode_text.Statement.{statement}
 use Rattle.seeds.proofs.seeds_encode_text.Tie as tie

@@ -1,3 +1,4 @@
+-- `seeds::seeds_expand_text` meets its contract. Assumes nothing.
 use borrow.Author.Needs.{needs}
 use Rattle.seeds.proofs.seeds_expand_text.Statement.{statement}
 use Rattle.seeds.proofs.seeds_expand_text.Tie as tie

@@ -1,3 +1,4 @@
+-- `seeds::text_answer_of` meets its contract. Assumes nothing.
 use borrow.Author.Needs.{needs}
 use Rattle.seeds.proofs.text_answer_of.Statement.{statement}
 use Rattle.seeds.proofs.text_answer_of.Tie as tie

@@ -1,4 +1,5 @@
--- The measure: the tries that are left.
+-- `stream::read_some` meets its contract. The measure: the tries that are left.
+-- Assumes nothing.
 use Rattle.stream.proofs.read_some.Statement.{statement}
 use Rattle.stream.proofs.read_some.Tie as tie
 use borrow.Author.Needs.{needs}

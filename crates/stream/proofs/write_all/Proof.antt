@@ -1,4 +1,5 @@
--- The measure: the bytes that are left.
+-- `stream::write_all` meets its contract. The measure: the bytes that are left.
+-- Assumes nothing.
 use Rattle.stream.proofs.write_all.Statement.{statement}
 use Rattle.stream.proofs.write_all.Tie as tie
 use borrow.Author.Needs.{needs}

@@ -1,4 +1,5 @@
--- The measure: the attempts that are left.
+-- `stream::write_some` meets its contract. The measure: the attempts that are left.
+-- Assumes nothing.
 use Rattle.stream.proofs.write_some.Statement.{statement}
 use Rattle.stream.proofs.write_some.Tie as tie
 use borrow.Author.Needs.{needs}

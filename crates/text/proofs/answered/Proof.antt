@@ -1,3 +1,4 @@
+-- `text::answered` meets its contract. Assumes nothing.
 use borrow.Author.Needs.{needs}
 use Rattle.text.proofs.answered.Statement.{statement}
 use Rattle.text.proofs.answered.Tie as tie

@@ -1,3 +1,4 @@
+-- `text::bytes_of` meets its contract. Assumes nothing.
 use borrow.Author.Needs.{needs}
 use Rattle.text.proofs.bytes_of.Statement.{statement}
 use Rattle.text.proofs.bytes_of.Tie as tie

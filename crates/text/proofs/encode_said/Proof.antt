@@ -1,3 +1,4 @@
+-- `text::encode_said` meets its contract. Assumes nothing.
 use borrow.Author.Needs.{needs}
 use Rattle.text.proofs.encode_said.Statement.{statement}
 use Rattle.text.proofs.encode_said.Tie as tie

@@ -1,4 +1,5 @@
--- The lists hold what the lines say, so what is encoded is what the sheet says.
+-- `text::encode_text` meets its contract. The lists hold what the lines say, so what is encoded is what the sheet says.
+-- Assumes nothing.
 use borrow.Author.Needs.{needs}
 use Rattle.text.proofs.encode_text.Statement.{statement}
 use Rattle.text.proofs.encode_text.Tie as tie

@@ -1,3 +1,4 @@
+-- `text::expand_said` meets its contract. Assumes nothing.
 use borrow.Author.Needs.{needs}
 use Rattle.text.proofs.expand_said.Statement.{statement}
 use Rattle.text.proofs.expand_said.Tie as tie

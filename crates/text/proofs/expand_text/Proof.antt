@@ -1,4 +1,5 @@
--- The lists hold what the lines say, so what is expanded is what the list says.
+-- `text::expand_text` meets its contract. The lists hold what the lines say, so what is expanded is what the list says.
+-- Assumes nothing.
 use borrow.Author.Needs.{needs}
 use Rattle.text.proofs.expand_text.Statement.{statement}
 use Rattle.text.proofs.expand_text.Tie as tie

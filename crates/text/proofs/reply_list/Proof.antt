@@ -1,3 +1,4 @@
+-- `text::reply_list` meets its contract. Assumes nothing.
 use borrow.Author.Needs.{needs}
 use Rattle.text.proofs.reply_list.Statement.{statement}
 use Rattle.text.proofs.reply_list.Tie as tie

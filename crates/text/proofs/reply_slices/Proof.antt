@@ -1,3 +1,4 @@
+-- `text::reply_slices` meets its contract. Assumes nothing.
 use borrow.Author.Needs.{needs}
 use Rattle.text.proofs.reply_slices.Statement.{statement}
 use Rattle.text.proofs.reply_slices.Tie as tie

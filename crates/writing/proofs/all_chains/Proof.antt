@@ -1,4 +1,5 @@
--- A single bit above the chains, less one; in a word with no bit above them, the largest.
+-- `writing::all_chains` meets its contract. A single bit above the chains, less one; in a word with no bit above them, the largest.
+-- Assumes nothing.
 use native.Mathlib.Omega.{arith}
 use lib.Pow.{pow-pos}
 use Rattle.gf2.proofs.Digits.{one-shifted}

@@ -1,4 +1,5 @@
--- An unspecified position is an x, whatever its bit.
+-- `writing::character` meets its contract. An unspecified position is an x, whatever its bit.
+-- Assumes nothing.
 use mathlib.Core.Path.{sym, _∙_}
 use native.Mathlib.Nat.{add-comm}
 use Rattle.writing.specs.Numerals.{character}

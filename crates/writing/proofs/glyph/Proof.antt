@@ -1,4 +1,5 @@
--- The byte of a digit goes by whether the digit is below ten.
+-- `writing::glyph` meets its contract. The byte of a digit goes by whether the digit is below ten.
+-- Assumes nothing.
 use native.Mathlib.Omega.{arith}
 use borrow.Author.Tests.{lt-ltb, le-ltb}
 use Rattle.writing.specs.Numerals.{glyph}

@@ -1,4 +1,5 @@
--- The invariant: the digits of what is left, before those that stand in the array, are the digits of the number.
+-- `writing::numeral` meets its contract. The invariant: the digits of what is left, before those that stand in the array, are the digits of the number.
+-- Assumes nothing.
 use mathlib.Core.Path.{_≡_, sym, _∙_}
 use mathlib.Core.List.{_++_}
 use Prim.Native.Nat.{_^_, _≤_, _<_}

@@ -1,4 +1,5 @@
--- The invariant: what is left of the bytes, stored from here on, gives what all of them give.
+-- `writing::put` meets its contract. The invariant: what is left of the bytes, stored from here on, gives what all of them give.
+-- Assumes nothing.
 use Prim.Native.Nat.{_+_, _-_, _≤_}
 use native.Mathlib.Nat.{add-zero}
 use native.Mathlib.Omega.{arith}

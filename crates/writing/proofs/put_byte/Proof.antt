@@ -1,4 +1,5 @@
--- A place outside the buffer takes no byte.
+-- `writing::put_byte` meets its contract. A place outside the buffer takes no byte.
+-- Assumes nothing.
 use mathlib.Core.Path.{sym}
 use borrow.Author.Needs.{needs}
 use lib.Seq.{set-out}

@@ -1,4 +1,5 @@
--- The invariant: the characters of the chains that are left, stored from here on, give what all of them give.
+-- `writing::put_characters` meets its contract. The invariant: the characters of the chains that are left, stored from here on, give what all of them give.
+-- Assumes nothing.
 use Prim.Native.Nat.{_+_, _-_, _≤_}
 use native.Mathlib.Nat.{add-zero, sub-zero}
 use native.Mathlib.Omega.{arith}

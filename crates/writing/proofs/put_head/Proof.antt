@@ -1,4 +1,5 @@
--- The lines are stored one after the other.
+-- `writing::put_head` meets its contract. The lines are stored one after the other.
+-- Assumes nothing.
 use native.Mathlib.Omega.{arith}
 use Rattle.keys.specs.Keys.{name}
 use Rattle.register.specs.Machine.{base}

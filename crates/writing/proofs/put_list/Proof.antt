@@ -1,4 +1,5 @@
--- The head and the lines after it are stored one after the other.
+-- `writing::put_list` meets its contract. The head and the lines after it are stored one after the other.
+-- Assumes nothing.
 use native.Mathlib.Omega.{arith}
 use Rattle.keys.specs.Keys.{name}
 use Rattle.register.specs.Machine.{base}

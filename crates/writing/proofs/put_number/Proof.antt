@@ -1,4 +1,5 @@
--- The digits stand at the end of the array, and the part from the first on is stored.
+-- `writing::put_number` meets its contract. The digits stand at the end of the array, and the part from the first on is stored.
+-- Assumes nothing.
 use mathlib.Core.Path.{_∙_}
 use Rattle.writing.proofs.Digits.{digits-taken}
 use borrow.Author.Needs.{needs}

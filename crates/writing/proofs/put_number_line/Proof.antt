@@ -1,4 +1,5 @@
--- The key, the number and the line feed are stored one after the other.
+-- `writing::put_number_line` meets its contract. The key, the number and the line feed are stored one after the other.
+-- Assumes nothing.
 use native.Mathlib.Omega.{arith}
 use Rattle.writing.specs.Writing.{numberLine}
 use Rattle.writing.proofs.Storing.{join}

@@ -1,4 +1,5 @@
--- The invariant: the lines of the numbers that are left, stored from here on, give what all of them give.
+-- `writing::put_number_lines` meets its contract. The invariant: the lines of the numbers that are left, stored from here on, give what all of them give.
+-- Assumes nothing.
 use Prim.Native.Nat.{_+_, _-_, _≤_}
 use native.Mathlib.Omega.{arith}
 use lib.ListN.{length, getD, drop}

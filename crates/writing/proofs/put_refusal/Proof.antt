@@ -1,4 +1,5 @@
--- The two lines are stored one after the other.
+-- `writing::put_refusal` meets its contract. The two lines are stored one after the other.
+-- Assumes nothing.
 use native.Mathlib.Omega.{arith}
 use Rattle.writing.specs.Writing.{refusedText}
 use Rattle.writing.proofs.Storing.{join}

@@ -1,4 +1,5 @@
--- What was counted first is stored where there is space for it.
+-- `writing::write_list` meets its contract. What was counted first is stored where there is space for it.
+-- Assumes nothing.
 use native.Mathlib.Omega.{arith}
 use Rattle.register.specs.Machine.{base}
 use Rattle.writing.proofs.Storing.{filled, filled-short}
