@@ -34,7 +34,7 @@ use Rattle.covering.specs.Rules.{Rules, rules}
 use Rattle.covering.specs.Windows.{CoveredBy}
 use Rattle.expander.specs.Expanding.{expandList}
 use Rattle.encoder.specs.Encoding.{CubesOutcome, stopped, withStop, encodeCubes}
-use Rattle.encoder.specs.Meaning.{Delivers, SetMeaning, StoppedMeaning}
+use Rattle.encoder.specs.Meaning.{Delivers, Shortest, SetMeaning, StoppedMeaning}
 use Rattle.encoder.specs.declared.Encoded.the-variants as encoded
 use Rattle.encoder.proofs.Cubes.{cubes-means}
 
@@ -56,6 +56,8 @@ covering-words M R set h (state {s = s} c w) = rw (beyond-no 64 s (le-trans (c .
 
 pub record Accepted (g : Settings) (masks specified bits out : List ℕ) (stop : TestSlice) (n : ℕ) (buffer : List ℕ) : Type 0 where
   pub formed : judged (setFaults g masks stop specified bits) ≡ verdict.WellFormed
+  pub steps : stopFor (length masks) (paired specified bits) ≡ some stop
+  pub shortest : Shortest (machine g masks) (rules g stop) (paired specified bits) (take n buffer)
   pub count : length (take n buffer) ≡ n
   pub words : any (beyond 64) (take n buffer) ≡ false
   pub delivers : Delivers (paired specified bits) (expandList g masks stop (length specified) (take n buffer))
@@ -65,29 +67,31 @@ module _ (g : Settings) (masks : List ℕ) (depth : ℕ) (ps bs out : List ℕ) 
   o = encodeCubes g masks depth ps bs out
 
   -- By the call with the stop slice handed in.
-  handed-accepted : (stop : TestSlice) (n : ℕ) (h : Outcome) → judged (setFaults g masks stop ps bs) ≡ verdict.WellFormed → SetMeaning g masks stop ps bs out h → h .answer ≡ written.Count n → Accepted g masks ps bs out stop n (h .buffer)
-  handed-accepted stop n h f m e =
+  handed-accepted : (stop : TestSlice) (n : ℕ) (h : Outcome) → stopFor (length masks) (paired ps bs) ≡ some stop → judged (setFaults g masks stop ps bs) ≡ verdict.WellFormed → SetMeaning g masks stop ps bs out h → h .answer ≡ written.Count n → Accepted g masks ps bs out stop n (h .buffer)
+  handed-accepted stop n h z f m e =
       let l = m .meaning f .accepted n e .0 in
       let t : take n (h .buffer) ≡ l .seeds = ap (take n) (m .meaning f .accepted n e .1) ∙ ap (λ k. take k (l .seeds ++ drop n out)) (sym (l .count)) ∙ take-append-seam (l .seeds) (drop n out) in
       record {
         formed = f;
+        steps = z;
+        shortest = rw t (l .shortest);
         count = ap length t ∙ l .count;
         words = ap (any (beyond 64)) t ∙ covering-words (machine g masks) (rules g stop) (paired ps bs) (pow-mono {i = g .cells} {j = 64} (cells-within (g .cells) (g .taps) (set-formed g masks stop ps bs f .register) .1)) (l .shortest .covers);
         delivers = m .delivers n f e;
       }
 
-  stopped-accepted : (st stop : TestSlice) (n : ℕ) → StoppedMeaning g masks ps bs out st o → o .answer ≡ encoded.Seeds stop n → Accepted g masks ps bs out stop n (o .buffer)
+  stopped-accepted : (st stop : TestSlice) (n : ℕ) → stopFor (length masks) (paired ps bs) ≡ some st → StoppedMeaning g masks ps bs out st o → o .answer ≡ encoded.Seeds stop n → Accepted g masks ps bs out stop n (o .buffer)
   unfolding withStop
-  stopped-accepted st stop n m e =
+  stopped-accepted st stop n z m e =
       let q = stopped-seeds st stop n (m .handed .answer) (sym (ap (λ (x : CubesOutcome). x .answer) (m .outcome)) ∙ e) in
-      rw (ap (λ (x : CubesOutcome). x .buffer) (m .outcome), ← (q .0)) (handed-accepted st n (m .handed) (m .formed) (m .meaning) (q .1))
+      rw (ap (λ (x : CubesOutcome). x .buffer) (m .outcome), ← (q .0)) (handed-accepted st n (m .handed) z (m .formed) (m .meaning) (q .1))
 
   pub cubes-accepted : (stop : TestSlice) (n : ℕ) → o .answer ≡ encoded.Seeds stop n → Accepted g masks ps bs out stop n (o .buffer)
   cubes-accepted stop n e = by-verdict (judged (cubesFaults g masks depth ps bs)) refl
     where
       by-stop : judged (cubesFaults g masks depth ps bs) ≡ verdict.WellFormed → (s : Option TestSlice) → stopFor (length masks) (paired ps bs) ≡ s → Accepted g masks ps bs out stop n (o .buffer)
       by-stop w none q = absurd (refused-seeds _ stop n (sym (ap (λ (x : CubesOutcome). x .answer) (cubes-means g masks ps bs out depth .unstopped w q .0)) ∙ e))
-      by-stop w (some st) q = stopped-accepted st stop n (cubes-means g masks ps bs out depth .stopped w st q) e
+      by-stop w (some st) q = stopped-accepted st stop n q (cubes-means g masks ps bs out depth .stopped w st q) e
 
       by-verdict : (v : Verdict) → judged (cubesFaults g masks depth ps bs) ≡ v → Accepted g masks ps bs out stop n (o .buffer)
       by-verdict (verdict.Refused c) w = absurd (refused-seeds c stop n (sym (ap (λ (x : CubesOutcome). x .answer) (cubes-means g masks ps bs out depth .refused c w)) ∙ e))

@@ -1,7 +1,7 @@
--- The round trip: the list that is printed for an accepted sheet, read back and expanded, gives as many slices as the sheet has, each agreeing with the sheet's.
+-- The quote: the list that is printed for an accepted sheet has the stop slice of the steps and as many seeds as the answer says, and no covering list is shorter. The round trip: the list that is printed for an accepted sheet, read back and expanded, gives as many slices as the sheet has, each agreeing with the sheet's.
 -- Assumes nothing.
 use mathlib.Core.Bool.{true}
-use mathlib.Core.Path.{_≡_, refl, ap, _∙_}
+use mathlib.Core.Path.{_≡_, refl, sym, ap, _∙_}
 use mathlib.Core.List.{List}
 use Prim.Native.Nat.{ℕ, _≤_, _<_}
 use native.Mathlib.Omega.{arith}
@@ -10,14 +10,18 @@ use lib.Seq.{take-append-seam}
 use Rattle.causes.specs.declared.Refusal.{Refusal}
 use Rattle.causes.specs.Outcome.{Outcome, fill}
 use Rattle.causes.proofs.Outcome.{fill-whole}
-use Rattle.register.specs.Machine.{base}
+use mathlib.Core.Option.{some}
+use Rattle.register.specs.Machine.{machine, base}
 use Rattle.slices.specs.declared.TestSlice.{TestSlice}
 use Rattle.slices.specs.Slices.{agrees, paired}
 use Rattle.slices.proofs.Formed.{slices-length}
 use Rattle.checks.proofs.Lengths.{set-within}
 use Rattle.checks.proofs.Stopped.{set-formed}
 use Rattle.keys.specs.declared.Key.the-variants as key
+use Rattle.stop.specs.Steps.{stopFor}
+use Rattle.covering.specs.Rules.{rules}
 use Rattle.encoder.specs.Encoding.{CubesOutcome, encodeCubes}
+use Rattle.encoder.specs.Meaning.{Shortest}
 use Rattle.encoder.specs.declared.Encoded.{Encoded}
 use Rattle.encoder.specs.declared.Encoded.the-variants as encodings
 use Rattle.reading.specs.Reading.{readingOf}
@@ -31,7 +35,7 @@ use Rattle.readback.proofs.Whole.{read-back}
 use Rattle.readback.proofs.Said.{masks-back, rows-back, cells-back, taps-back, slices-back, stop-back}
 use Rattle.text.specs.Replies.{Reply, text, refused, lent, listReply, slicesReply, encoded, expanded, sheetReply, seedListReply, concluded, encodeReply, expandReply}
 use Rattle.text.proofs.Space.{encode-long}
-use Rattle.roundtrip.specs.RoundTrip.{sheetOf, GivesBack}
+use Rattle.roundtrip.specs.RoundTrip.{sheetOf, Quoted, GivesBack}
 use Rattle.roundtrip.proofs.Accepted.{cubes-accepted}
 
 -- ---- the printed list, read and expanded
@@ -88,6 +92,26 @@ module _ (cells taps : ℕ) (masks : List ℕ) (depth : ℕ) (ps bs : List ℕ) 
   reply-back (encodings.Seeds stop m) q list n e = rw (← (text-is _ list m n e)) (seeds-back stop m q)
   reply-back (encodings.Refused c) q list n e = absurd (refused-text _ list n e)
 
+-- What an accepted list quotes, by what the sheet says.
+record Quote (cells taps : ℕ) (masks ps bs list : List ℕ) (n : ℕ) : Type 0 where
+  stop : TestSlice
+  seeds : List ℕ
+  printed : list ≡ listText (base cells taps) masks stop (length ps) seeds
+  count : length seeds ≡ n
+  steps : stopFor (length masks) (paired ps bs) ≡ some stop
+  shortest : Shortest (machine (base cells taps) masks) (rules (base cells taps) stop) (paired ps bs) seeds
+
+count-is : (bs list : List ℕ) (m n : ℕ) → text bs m ≡ text list n → m ≡ n
+count-is bs list m n e = cc
+
+module _ (cells taps : ℕ) (masks : List ℕ) (depth : ℕ) (ps bs : List ℕ) where
+  reply-quotes : (a : Encoded) → o cells taps masks depth ps bs .answer ≡ a → (list : List ℕ) (n : ℕ) → listReply (base cells taps) masks (length ps) (o cells taps masks depth ps bs .buffer) a ≡ text list n → Quote cells taps masks ps bs list n
+  unfolding listReply
+  reply-quotes (encodings.Seeds stop m) q list n e =
+      let a = cubes-accepted (base cells taps) masks depth ps bs lent stop m q in
+      record { stop = stop; seeds = take m (o cells taps masks depth ps bs .buffer); printed = sym (text-is _ list m n e); count = a .count ∙ count-is _ list m n e; steps = a .steps; shortest = a .shortest }
+  reply-quotes (encodings.Refused c) q list n e = absurd (refused-text _ list n e)
+
 concluded-text : (end : Scanned) (r : Reply) (list : List ℕ) (n : ℕ) → concluded end r ≡ text list n → r ≡ text list n
 unfolding concluded
 concluded-text (scanned.Whole p) r list n e = e
@@ -99,3 +123,10 @@ round-trip s list n e =
     let es = sheetOf s in
     let b = reply-back (numberFor key.Cells es) (numberFor key.Taps es) (masksOf es) (numberFor key.Depth es) (rowsOf es) (rowBitsOf es) _ refl list n (concluded-text (readingOf kinds.Sheet s .end) _ list n e) in
     record { slices = b .slices; expands = b .expands; whole = b .whole; agree = b .agree }
+
+pub quoted : (s list : List ℕ) (n : ℕ) → encodeReply s ≡ text list n → Quoted s list n
+unfolding encodeReply sheetReply encoded
+quoted s list n e =
+    let es = sheetOf s in
+    let b = reply-quotes (numberFor key.Cells es) (numberFor key.Taps es) (masksOf es) (numberFor key.Depth es) (rowsOf es) (rowBitsOf es) _ refl list n (concluded-text (readingOf kinds.Sheet s .end) _ list n e) in
+    record { stop = b .stop; seeds = b .seeds; printed = b .printed; count = b .count; steps = b .steps; shortest = b .shortest }
