@@ -1,16 +1,22 @@
 -- A slice as document 01 writes it: a character for each chain, chain 1 leftmost; 0, 1 or x.
+--     ofRow r                the slice of a row of characters; none where there is no slice
 --     slice s                the test slice or stop slice of such a text
 --     specifieds, bitses     the two lists of several
 use mathlib.Core.List.{List, [], _∷_}
-use mathlib.Core.Option.{Option·getD}
 use Prim.Native.Nat.{ℕ}
 use Prim.Native.String.{String}
 use Rattle.slices.specs.declared.TestSlice.{TestSlice}
-use Rattle.text.specs.Bytes.{bytes}
-use Rattle.text.specs.Characters.{sliceOf}
+use Rattle.keys.specs.Bytes.{bytes}
+use Rattle.lines.specs.Characters.{rowOf}
+use Rattle.lines.specs.declared.Row.{Row}
+use Rattle.lines.specs.declared.Row.the-variants as rows
+
+abbrev pub ofRow : Row → TestSlice
+ofRow (rows.Slice s) = s
+ofRow rows.Nothing = record { specified = 0; bits = 0 }
 
 abbrev pub slice : String → TestSlice
-slice s = Option·getD (sliceOf (bytes s)) (record { specified = 0; bits = 0 })
+slice s = ofRow (rowOf (bytes s))
 
 abbrev pub specifieds : List String → List ℕ
 specifieds [] = []

@@ -42,7 +42,7 @@ use Rattle.expander.specs.Expanding.{after, walk, totalled, expanding, expandLi
 use Rattle.encoder.specs.Encoding.{seedsOf, planned, encoding, encodeSet, CubesOutcome, stopped, withStop, cubesEncoding, encodeCubes}
 use Rattle.encoder.specs.declared.Encoded.{Encoded}
 use Rattle.encoder.specs.declared.Encoded.the-variants as encoded
-use Rattle.text.specs.Characters.{isCharacter, specifiedAt, bitAt, inFront, sliceOf}
+use Rattle.lines.specs.Characters.{isCharacter, specifiedAt, bitAt, inFront, rowOf}
 use Rattle.bench_examples.specs.Reading.{slice, specifieds, bitses}
 
 pub data Question : Type 0 where
@@ -158,5 +158,5 @@ tolds [] = []
 tolds (r ∷ rs) = r .told ∷ tolds rs
 
 pub starred : answers table ≡ tolds table
-unfolding answers tolds answer refusal states showings of-formed of-seed of-written of-encoded yes digit odd beyond ones onesIn within any leastBelow lastBelow refuse fill step badRegister chainsSlice badCount badMask badChains agrees shows paired badSlice badSlices badStop badWindow badSet badCubes badList tests firstOf judged stoppedFaults windowFaults setFaults cubesFaults stopFaults listFaults reach hop ends greedy filter count better choice settle keep setBy advance stage ended stopFor stopOr6 stopOf fits quiet covers seedOf before far placed closes seedAt ok lowestOr7 windowSeed slicesOf firstStop ending delivers after walk totalled expanding expandList seedsOf planned encoding encodeSet stopped withStop cubesEncoding encodeCubes isCharacter specifiedAt bitAt inFront sliceOf
+unfolding answers tolds answer refusal states showings of-formed of-seed of-written of-encoded yes digit odd beyond ones onesIn within any leastBelow lastBelow refuse fill step badRegister chainsSlice badCount badMask badChains agrees shows paired badSlice badSlices badStop badWindow badSet badCubes badList tests firstOf judged stoppedFaults windowFaults setFaults cubesFaults stopFaults listFaults reach hop ends greedy filter count better choice settle keep setBy advance stage ended stopFor stopOr6 stopOf fits quiet covers seedOf before far placed closes seedAt ok lowestOr7 windowSeed slicesOf firstStop ending delivers after walk totalled expanding expandList seedsOf planned encoding encodeSet stopped withStop cubesEncoding encodeCubes isCharacter specifiedAt bitAt inFront rowOf
 starred = refl
