@@ -19,11 +19,18 @@ fn reply(text: &[u8], out: &mut [u8]) -> usize
     text::print(answer, out)
 }
 
-// The input buffer holds every byte that can decide the answer; what follows them is not read.
+// Reads the text into a buffer that holds every byte that can decide the answer (`enough` in reading); what follows them is not read. How many bytes there are.
+fn read_text(buffer: &mut [u8]) -> usize
+    requires { ⌜ 169441 ≤ length (now buffer) ⌝ }
+    ensures { λ r. ⌜ Counts r (now (buffer .exit)) ⌝ }
+{
+    stream::read_all(STDIN_FILENO, buffer)
+}
+
 fn main() {
     let mut input = [0u8; 169441];
     let mut output = [0u8; 145408];
-    let n = stream::read_all(STDIN_FILENO, &mut input);
+    let n = read_text(&mut input);
     let count = reply(&input[..n], &mut output);
     stream::write_all(STDOUT_FILENO, &output[..count]);
 }
