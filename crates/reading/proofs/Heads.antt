@@ -11,7 +11,8 @@ use lib.Seq.{getD-set-same, getD-set-other}
 use Rattle.keys.specs.Keys.{rank, same}
 use Rattle.keys.specs.declared.Key.{Key}
 use Rattle.keys.specs.declared.Key.the-variants as key
-use Rattle.reading.specs.Said.{keyIs, picked, lastOr, keptAll}
+use Rattle.reading.specs.Said.{keyIs, picked, lastOr}
+use Rattle.reading.specs.Code.{keptAll}
 use Rattle.reading.specs.declared.Entry.{Entry}
 
 pub rank-lt : (k : Key) → rank k < 9

@@ -16,7 +16,8 @@ use Rattle.keys.specs.declared.Key.{Key}
 use Rattle.keys.specs.declared.Key.the-variants as key
 use Rattle.reading.specs.Order.{isRow, moved}
 use Rattle.reading.specs.Reading.{entry}
-use Rattle.reading.specs.Said.{keyIs, rowIs, picked, masksOf, rowsOf, rowBitsOf, storedIf, keptAll}
+use Rattle.reading.specs.Said.{keyIs, rowIs, picked, masksOf, rowsOf, rowBitsOf}
+use Rattle.reading.specs.Code.{storedIf, keptAll}
 use Rattle.reading.specs.declared.Kind.{Kind}
 use Rattle.reading.specs.declared.Place.{Place}
 use Rattle.reading.specs.declared.Entry.{Entry}

@@ -10,10 +10,11 @@ use lib.ListN.{length, take, drop, drop-of-length-le}
 use lib.Seq.{sets, drop-cons}
 use Rattle.lines.specs.declared.LineCause.the-variants.{Form}
 use Rattle.lines.specs.declared.Line.{Line}
-use Rattle.reading.specs.Text.{split, span}
+use Rattle.reading.specs.Text.{split}
+use Rattle.reading.specs.Code.{span, keptAll}
 use Rattle.reading.specs.Order.{start, saying, moved}
 use Rattle.reading.specs.Reading.{refusedAt, takenOf, refusalOfLine, Reading, stops, told, endOf, reading, readingOf}
-use Rattle.reading.specs.Said.{masksOf, rowsOf, rowBitsOf, keptAll}
+use Rattle.reading.specs.Said.{masksOf, rowsOf, rowBitsOf}
 use Rattle.reading.specs.declared.Kind.{Kind}
 use Rattle.reading.specs.declared.Place.{Place}
 use Rattle.reading.specs.declared.Entry.{Entry}

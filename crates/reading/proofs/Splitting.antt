@@ -10,7 +10,8 @@ use borrow.Author.Tests.{eq-eqb, ne-eqb}
 use lib.Dec.{eqb}
 use lib.ListN.{length, getD, take, drop, drop-of-length-le, length-drop}
 use lib.Seq.{drop-cons, drop-drop}
-use Rattle.reading.specs.Text.{line, rest, joined, split, span}
+use Rattle.reading.specs.Text.{line, rest, joined, split}
+use Rattle.reading.specs.Code.{span}
 
 module _ (s : List ℕ) (i : ℕ) where
   pub span-feed : i < length s → getD s i 0 ≡ 10 → span (drop i s) ≡ 0

@@ -3,3 +3,4 @@ pub mod Text
 pub mod Order
 pub mod Reading
 pub mod Said
+pub mod Code

@@ -8,14 +8,11 @@
 --     lastOr x l          the last of the list l, or x where it is empty
 --     numberFor k es      the number for a key that has one line
 --     sliceFor k es       the slice for such a key
---     storedIf c l i v    the list l with v at i, where c holds
---     keptAll f l es      the list l with the number f of each entry at the rank of its key
 use mathlib.Core.Bool.{Bool, true, false}
 use mathlib.Core.List.{List, [], _∷_}
 use Prim.Native.Nat.{ℕ}
-use lib.ListN.{set}
 use Rattle.slices.specs.declared.TestSlice.{TestSlice}
-use Rattle.keys.specs.Keys.{rank, same}
+use Rattle.keys.specs.Keys.{same}
 use Rattle.keys.specs.declared.Key.{Key}
 use Rattle.keys.specs.declared.Key.the-variants as key
 use Rattle.reading.specs.Order.{isRow}
@@ -49,10 +46,3 @@ numberFor k es = lastOr 0 (picked (keyIs k) (λ e. e .first) es)
 
 abbrev pub sliceFor : Key → List Entry → TestSlice
 sliceFor k es = record { specified = numberFor k es; bits = lastOr 0 (picked (keyIs k) (λ e. e .second) es) }
-
-unfoldable pub storedIf : Bool → List ℕ → ℕ → ℕ → List ℕ
-storedIf c l i v = elim c [ true ↦ set l i v | false ↦ l ]
-
-unfoldable pub keptAll : (Entry → ℕ) → List ℕ → List Entry → List ℕ
-keptAll f l [] = l
-keptAll f l (e ∷ es) = keptAll f (set l (rank (e .key)) (f e)) es

@@ -9,10 +9,10 @@ ghost use lib.ListN.{length, drop, set};
 ghost use lib.Seq.{sets};
 ghost use Rattle.keys.specs.Keys.{rank as rankOf, same as sameOf};
 ghost use Rattle.keys.specs.declared.Key.the-variants as key;
-ghost use Rattle.reading.specs.Text.{span};
+ghost use Rattle.reading.specs.Code.{span, storedIf, keptAll};
 ghost use Rattle.reading.specs.Order.{isRow, outOfRange, rangeCause, tested as testedOf, ranged as rangedOf, saying as sayingOf, afterChains, afterMask, onTo, afterRow, moved as movedOf};
 ghost use Rattle.reading.specs.Reading.{refusedAt, takenOf, refusalOfLine, endOf, readingOf};
-ghost use Rattle.reading.specs.Said.{keyIs, rowIs, masksOf, rowsOf, rowBitsOf, storedIf, keptAll};
+ghost use Rattle.reading.specs.Said.{keyIs, rowIs, masksOf, rowsOf, rowBitsOf};
 
 // The kinds of text that are read.
 pub enum Kind {

@@ -11,7 +11,8 @@ use Rattle.keys.specs.Keys.{rank}
 use Rattle.keys.specs.declared.Key.{Key}
 use Rattle.keys.specs.declared.Key.the-variants as key
 use Rattle.reading.specs.Reading.{readingOf}
-use Rattle.reading.specs.Said.{masksOf, rowsOf, rowBitsOf, numberFor, keptAll}
+use Rattle.reading.specs.Said.{masksOf, rowsOf, rowBitsOf, numberFor}
+use Rattle.reading.specs.Code.{keptAll}
 use Rattle.reading.specs.declared.Kind.{Kind}
 use Rattle.reading.specs.declared.Kind.the-variants as kinds
 use Rattle.reading.specs.declared.Place.{Place}

@@ -9,7 +9,8 @@ use lib.Seq.{sets, length-sets, take-append-seam}
 use Rattle.keys.specs.Keys.{rank}
 use Rattle.keys.specs.declared.Key.{Key}
 use Rattle.reading.specs.Reading.{readingOf}
-use Rattle.reading.specs.Said.{keyIs, picked, masksOf, rowsOf, rowBitsOf, lastOr, keptAll}
+use Rattle.reading.specs.Said.{keyIs, picked, masksOf, rowsOf, rowBitsOf, lastOr}
+use Rattle.reading.specs.Code.{keptAll}
 use Rattle.reading.specs.declared.Entry.{Entry}
 use Rattle.reading.specs.declared.Kind.{Kind}
 use Rattle.reading.specs.declared.Place.{Place}

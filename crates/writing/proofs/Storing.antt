@@ -18,7 +18,7 @@ use Rattle.causes.specs.Outcome.{fill}
 use Rattle.causes.specs.declared.Cause.the-variants.{NoSpace}
 use Rattle.causes.specs.declared.Written.the-variants.{Count, Refused}
 use Rattle.causes.proofs.Outcome.{outcome-parts, refused-parts, fill-whole, fill-short}
-use Rattle.writing.specs.Storing.{Stored}
+use Rattle.writing.specs.Code.{Stored}
 
 pub sets-append : (a b old : List ℕ) (at : ℕ) → sets old at (a ++ b) ≡ sets (sets old at a) (at + length a) b
 sets-append [] b old at = rw add-zero

@@ -12,7 +12,7 @@ ghost use lib.Seq.{sets};
 ghost use Rattle.causes.specs.Outcome.{fill};
 ghost use Rattle.register.specs.Machine.{base as baseOf};
 ghost use Rattle.writing.specs.Numerals.{glyph as glyphOf, numeral as numeralOf, character as characterOf, characters as charactersOf};
-ghost use Rattle.writing.specs.Storing.{Stored};
+ghost use Rattle.writing.specs.Code.{Stored};
 ghost use Rattle.writing.specs.Writing.{numberLine, numberLines, sliceLine, sliceLines, headText, listText, refusedText};
 
 // The byte of a digit.

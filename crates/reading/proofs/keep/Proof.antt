@@ -2,7 +2,7 @@
 use borrow.Author.Needs.{needs}
 use Rattle.reading.proofs.keep.Statement.{statement}
 use Rattle.reading.proofs.keep.Tie as tie
-use Rattle.reading.specs.Said.{storedIf}
+use Rattle.reading.specs.Code.{storedIf}
 
 rank-requires : tie.Need-rank-requires
 rank-requires c κs = search needs

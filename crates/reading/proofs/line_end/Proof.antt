@@ -6,7 +6,7 @@ use mathlib.Core.Path.{_≡_}
 use Prim.Native.Nat.{_+_, _-_, _≤_}
 use native.Mathlib.Omega.{arith}
 use lib.ListN.{length, drop}
-use Rattle.reading.specs.Text.{span}
+use Rattle.reading.specs.Code.{span}
 use Rattle.reading.proofs.Splitting.{span-feed, span-go, span-end}
 
 abbrev Inv-loop : tie.InvT-loop

@@ -4,7 +4,7 @@ use Rattle.reading.proofs.store.Statement.{statement}
 use Rattle.reading.proofs.store.Tie as tie
 use mathlib.Core.Path.{sym}
 use lib.Seq.{set-out}
-use Rattle.reading.specs.Said.{storedIf}
+use Rattle.reading.specs.Code.{storedIf}
 
 mul-list : tie.Need-mul-list
 mul-list c = search needs
