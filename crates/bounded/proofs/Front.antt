@@ -2,14 +2,17 @@
 --     Front xs old out i     the first i entries are those of xs, and every other entry is as it was
 --     front-length, front-at     the buffer keeps its length; an entry that is written
 --     front-start, front-next, front-end     of a loop that goes up
+--     take-lesser     the first n entries, or all where there are fewer
 -- Assumes nothing.
 use mathlib.Core.Path.{_≡_, refl, sym, ap, _∙_}
+use mathlib.Core.Logic.{⊎-elim}
 use mathlib.Core.List.{List, [], _∷_, _++_}
-use Prim.Native.Nat.{ℕ, zero, suc, _+_, _≤_, _<_}
+use Prim.Native.Nat.{ℕ, zero, suc, min, _+_, _≤_, _<_}
 use native.Mathlib.Numerals.{add-one}
 use native.Mathlib.Omega.{arith}
 use lib.ListN.{getD, length, take, drop, set, length-append, length-drop}
-use lib.Seq.{take-suc, drop-cons, append-snoc, set-at, length-take-le, getD-take}
+use lib.Seq.{take-suc, take-all, drop-cons, append-snoc, set-at, length-take-le, getD-take}
+use Rattle.bounded.proofs.Tests.{lt-or-le}
 
 abbrev pub Front : List ℕ → List ℕ → List ℕ → ℕ → Type 0
 Front xs old out i = out ≡ take i xs ++ drop i old
@@ -39,3 +42,9 @@ module _ (xs old out : List ℕ) where
 
 pub front-start : (xs old : List ℕ) → Front xs old old 0
 front-start xs old = refl
+
+pub take-lesser : (n : ℕ) (l : List ℕ) → take (min n (length l)) l ≡ take n l
+take-lesser n l = ⊎-elim
+    (λ h. ap (λ (k : ℕ). take k l) (let e : min n (length l) ≡ n = omega arith in e))
+    (λ h. take-all (min n (length l)) l (omega arith) ∙ sym (take-all n l h))
+    (lt-or-le n (length l))

@@ -17,6 +17,7 @@ use lib.Dec.{ltb}
 use lib.ListN.{take-append-drop, getD, length, take, drop, set, length-append, length-drop, length-map, drop-of-length-le}
 use lib.Seq.{take-all, take-at, sets, sets-eq, drop-cons, drop-set-lt, drop-length, getD-take, length-take-le, take-take, take-set-lt}
 use borrow.Author.Tests.{eq-eqb, ne-eqb, lt-ltb, le-ltb}
+use Rattle.bounded.proofs.Front.{take-lesser}
 use Rattle.bounded.proofs.Tests.{eq-or-not, lt-or-le}
 use Rattle.gf2.specs.Words.{odd}
 use Rattle.space.specs.Space.{added, pivot, without}
@@ -134,18 +135,12 @@ place-lt mask vs n i l q ne = omega (arith, place-within mask (take n vs), lengt
 
 -- ---- the answer of `take_out`; n is the number of vectors that there are
 
-take-front : (f : ℕ) (vs : List ℕ) → take (min f (length vs)) vs ≡ take f vs
-take-front f vs = ⊎-elim
-    (λ l. ap (λ (k : ℕ). take k vs) (let e : min f (length vs) ≡ f = omega arith in e))
-    (λ l. take-all (min f (length vs)) vs (omega arith) ∙ sym (take-all f vs l))
-    (lt-or-le f (length vs))
-
 module _ (mask f : ℕ) (vs : List ℕ) (n : ℕ) (count : n ≡ min f (length vs)) where
   abbrev L : List ℕ
   L = take f vs
 
   whole : take n vs ≡ L
-  whole = ap (λ (k : ℕ). take k vs) count ∙ take-front f vs
+  whole = ap (λ (k : ℕ). take k vs) count ∙ take-lesser f vs
 
   pub taken-none : firstOdd mask (take n vs) ≡ n → (0 ≡ pivot mask L) × (n ≡ length (without mask L)) × (vs ≡ without mask L ++ drop (length (without mask L)) vs)
   taken-none q =

@@ -8,7 +8,7 @@ use native.Mathlib.Nat.{le-of-lt, min-eq-left}
 use native.Mathlib.Omega.{arith}
 use lib.ListN.{length, take}
 use lib.Seq.{take-all, take-length}
-use Rattle.bounded.proofs.Tests.{lt-or-le}
+use Rattle.bounded.proofs.Front.{take-lesser}
 use Rattle.causes.specs.declared.Written.{Written}
 use Rattle.causes.specs.declared.Written.the-variants as written
 use Rattle.causes.specs.Outcome.{fill}
@@ -23,15 +23,6 @@ use Rattle.text.specs.declared.Answer.{Answer}
 abbrev pub Leaves : Reply → List ℕ → Answer → List ℕ → Type 0
 Leaves r out a after = (a ≡ called r out .answer) × (after ≡ called r out .buffer)
 
--- So many entries as there are, or all.
-take-least : (n : ℕ) (l : List ℕ) → take (min n (length l)) l ≡ take n l
-take-least n l = ⊎-elim longer (λ h. ap (λ k. take k l) (min-eq-left h)) (lt-or-le (length l) n)
-  where
-    longer : length l < n → take (min n (length l)) l ≡ take n l
-    longer h =
-        let m : min n (length l) ≡ length l = omega arith in
-        ap (λ k. take k l) m ∙ take-length l ∙ sym (take-all n l (le-of-lt h))
-
 module _ (bs : List ℕ) (n : ℕ) (out : List ℕ) where
   pub text-leaves : (a : Answer) (w : Written) (after : List ℕ) → a ≡ answered n w → w ≡ fill bs out .answer → after ≡ fill bs out .buffer → Leaves (text bs n) out a after
   unfolding called
@@ -42,7 +33,7 @@ module _ (g : Settings) (masks : List ℕ) (slices : ℕ) (seeds out : List ℕ)
       → Leaves (listReply g masks slices seeds (encoding.Seeds stop n)) out a after
   unfolding listReply
   list-leaves a w after e f k =
-      let t : take m seeds ≡ take n seeds = rw h (take-least n seeds) in
+      let t : take m seeds ≡ take n seeds = rw h (take-lesser n seeds) in
       text-leaves _ n out a w after e (rw t at f) (rw t at k)
 
 module _ (chains : ℕ) (slices out : List ℕ) (n m : ℕ) (h : m ≡ min n (length slices)) where
@@ -50,5 +41,5 @@ module _ (chains : ℕ) (slices out : List ℕ) (n m : ℕ) (h : m ≡ min n (le
       → Leaves (slicesReply chains slices (written.Count n)) out a after
   unfolding slicesReply
   slices-leave a w after e f k =
-      let t : take m slices ≡ take n slices = rw h (take-least n slices) in
+      let t : take m slices ≡ take n slices = rw h (take-lesser n slices) in
       text-leaves _ n out a w after e (rw t at f) (rw t at k)
