@@ -6,3 +6,4 @@ pub mod Pivot
 pub mod Taking
 pub mod Restricting
 pub mod Blocks
+pub mod Numbers

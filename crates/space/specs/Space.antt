@@ -1,5 +1,7 @@
 -- A space of states: the solutions of linear equations over the cells, held as the lowest one and vectors that lead to the others.
+--     choose n a b         a where n is 0, else b
 --     among x vs s         s is a member of the space of x and the vectors vs: x, with some of the vectors added cell by cell
+--     pick x vs i          member number i: x, with each vector added whose digit in i is 1
 --     units h n            the unit vectors of n cells from cell h on; with x = 0 and h = 0 the members are the states of n cells
 --     added mask p w       the vector w, with p added where w is odd under the mask
 --     pivot mask vs        the first vector that is odd under the mask, or 0 where none is
@@ -11,16 +13,25 @@
 use mathlib.Core.Path.{_≡_}
 use mathlib.Core.Bool.{Bool, true, false, _&&_, _||_}
 use mathlib.Core.List.{List, [], _∷_, map}
-use Prim.Native.Nat.{ℕ, zero, suc, _≤_, _<_, _/_, _^_}
+use Prim.Native.Nat.{ℕ, zero, suc, _≤_, _<_, _/_, _%_, _^_}
 use lib.Bits.{bitXor}
 use lib.Dec.{eqb}
 use lib.ListN.{getD, length}
 use Rattle.gf2.specs.Words.{digit, odd}
 use Rattle.space.specs.declared.Space.{Space}
 
+abbrev pub choose : ℕ → ℕ → ℕ → ℕ
+choose zero a b = a
+choose (suc n) a b = b
+
 unfoldable pub among : ℕ → List ℕ → ℕ → Bool
 among x [] s = eqb s x
 among x (v ∷ vs) s = among x vs s || among (bitXor x v) vs s
+
+-- Members in rising order where the vectors rise.
+unfoldable pub pick : ℕ → List ℕ → ℕ → ℕ
+pick x [] i = x
+pick x (v ∷ vs) i = pick (choose (i % 2) x (bitXor x v)) vs (i / 2)
 
 unfoldable pub units : ℕ → ℕ → List ℕ
 units h zero = []

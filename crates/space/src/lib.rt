@@ -5,7 +5,7 @@ ghost use Prim.Native.Nat.{_+_, _<_, _≤_};
 ghost use lib.ListN.{drop, getD, length, take};
 ghost use lib.Dec.{ltb};
 ghost use lib.Seq.{sets};
-ghost use Rattle.space.specs.Space.{added as addedOf, pivot, restricted, shifted as shiftedOf, units as unitsOf, without};
+ghost use Rattle.space.specs.Space.{added as addedOf, pivot, pick, restricted, shifted as shiftedOf, units as unitsOf, without};
 ghost use Rattle.space.specs.Code.{firstOdd};
 
 // A space: its lowest member, how many entries of the buffer are its vectors, and whether it has a member at all.
@@ -32,6 +32,24 @@ pub fn units() -> [u64; 64]
         cell += 1;
     }
     vectors
+}
+
+// The member of a number: the lowest, with each of the first vectors of the buffer added whose digit in the number is 1.
+pub fn member(lowest: u64, vectors: &[u64], free: usize, number: usize) -> u64
+    ensures { λ r. ⌜ r ≡ pick lowest (take free (now (vectors .entry))) number ⌝ }
+{
+    let count = bounded::lesser(free, vectors.len());
+    let mut state = lowest;
+    let mut left = number;
+    let mut place: usize = 0;
+    while place < count {
+        if left % 2 == 1 {
+            state = state ^ vectors[place];
+        }
+        left = left / 2;
+        place += 1;
+    }
+    state
 }
 
 // The place of the first vector that is odd under the mask, or their number where none is.
