@@ -1,0 +1,3 @@
+-- The laws of lanes.
+
+pub mod Lanes
