@@ -1,6 +1,6 @@
 -- What the search keeps while it branches on a row in which the lowest member x shows the pattern: column by column, the members that read otherwise than x are searched, and those that read as x does are the rest.
 --     shown-first, shown-never     the first row in which a state shows the pattern, of a loop that goes up
---     first-none, first-some       what it says
+--     first-none, first-some, first-unclear     what it says
 --     Passes, passes-test, test-passes     the clear members of a space, and the test for them
 --     finds-lowest-clear, lowest-clear-finds     what a search of it finds, as an equation
 --     Branched            the rest reads the columns passed as x does; whatever else is clear is reached
@@ -21,7 +21,7 @@ use borrow.Author.Count.{below-more}
 use borrow.Author.Tests.{leb-true, leb-false}
 use Rattle.bounded.specs.Bounded.{leastBelow, NoneBelow}
 use Rattle.bounded.proofs.Search.{LeastIs, least-is, least-of, none-of}
-use Rattle.bounded.proofs.Tests.{clash, both, and-yes, eq-or-not}
+use Rattle.bounded.proofs.Tests.{clash, fails, both, and-yes, eq-or-not}
 use Rattle.gf2.specs.Words.{odd}
 use Rattle.gf2.proofs.Parity.{odd-lt, xor-odd}
 use Rattle.gf2.proofs.Xor.{xor-twice}
@@ -69,6 +69,9 @@ module _ (p : Pattern) (table : List ℕ) (m : ℕ) where
   pub first-some : (x t : ℕ) → t ≡ firstShown p table m x → (t ≡ m → ⊥) → (t < m) × (shown p table t x ≡ true)
   unfolding FirstIs
   first-some x t e n = ⊎-elim (λ a. absurd (n (e ∙ a .0))) (λ b. subst (λ (u : ℕ). (u < m) × (shown p table u x ≡ true)) (sym e) b) (first-is x)
+
+  pub first-unclear : (x t : ℕ) → t ≡ firstShown p table m x → (t ≡ m → ⊥) → clear p table m x ≡ false
+  first-unclear x t e n = let f = first-some x t e n in fails (clear p table m x) (λ c. clash (shown p table t x) (f .1) (clear-at p table x m t c (f .0)))
 
   -- ---- what a space holds that is clear
 

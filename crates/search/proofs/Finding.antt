@@ -3,12 +3,14 @@
 --     Reached found s      what was found is s or lower
 --     Finds Passes a r     r is a or a passing state below it, and every passing state is reached by r
 --     kept-on, reached-on  one search after another
+--     lower-reached, lower-not     the lower of a and a state, by the test whether a is as low
+--     finds-lower          the lower of a and the lowest passing state
 --     finds-is, is-finds   r is the lower of a and the lowest state that passes: the same as an equation
 -- Passes is a property of words of 64 bits.
 -- Assumes nothing.
 use mathlib.Core.Path.{_≡_, refl, sym, ap, _∙_, subst}
 use mathlib.Core.Logic.{_⊎_, inl, inr, ⊎-elim}
-use mathlib.Core.Bool.{Bool, true}
+use mathlib.Core.Bool.{Bool, true, false}
 use mathlib.Core.Option.{Option, none, some}
 use Prim.Native.Nat.{ℕ, _^_, _≤_, _<_}
 use native.Mathlib.Omega.{arith}
@@ -17,7 +19,7 @@ use Rattle.bounded.specs.Bounded.{leastBelow}
 use Rattle.bounded.proofs.Search.{LeastIs, least-is}
 use Rattle.bounded.proofs.Tests.{clash, lt-or-le}
 use Rattle.search.specs.Search.{foundOf}
-use Rattle.search.specs.Code.{Below, Kept, lower}
+use Rattle.search.specs.Code.{Below, Kept, lower, reached}
 use Rattle.search.specs.declared.Found.{Found}
 use Rattle.search.specs.declared.Found.the-variants.{State, Nothing}
 
@@ -70,6 +72,14 @@ lower-right : (a : Found) (g : ℕ) → Below a g → lower a (State g) ≡ Stat
 lower-right (State b) g h = rw (lt-leb b g h, lower)
 lower-right Nothing g h = refl
 
+pub lower-reached : (a : Found) (g : ℕ) → reached a g ≡ true → lower a (State g) ≡ a
+lower-reached (State b) g e = rw (e, lower)
+lower-reached Nothing g e = absurd (clash false e refl)
+
+pub lower-not : (a : Found) (g : ℕ) → reached a g ≡ false → lower a (State g) ≡ State g
+lower-not (State b) g e = rw (e, lower)
+lower-not Nothing g e = refl
+
 lower-none : (a : Found) → lower a Nothing ≡ a
 lower-none (State b) = refl
 lower-none Nothing = refl
@@ -77,6 +87,23 @@ lower-none Nothing = refl
 reached-or-below : (a : Found) (g : ℕ) → Reached a g ⊎ Below a g
 reached-or-below (State b) g = ⊎-elim (λ l. inr l) (λ l. inl l) (lt-or-le g b)
 reached-or-below Nothing g = inr tt
+
+-- the lower of a and a passing state that is as low as all others
+pub finds-lower : (P : ℕ → Type 0) (a r : Found) (g : ℕ) → g < 2 ^ 64 → P g → ((s : ℕ) → s < 2 ^ 64 → P s → g ≤ s) → r ≡ lower a (State g) → Finds P a r
+finds-lower P a r g w t l e = subst (λ (f : Found). Finds P a f) (sym e) (⊎-elim
+    (λ h. record {
+      kept = inl (lower-left a g h);
+      all = λ s b q. subst (λ (f : Found). Reached f s) (sym (lower-left a g h)) (reached-up a g s h (l s b q));
+    })
+    (λ h. record {
+      kept = inr (g, lower-right a g h, w, t, h);
+      all = λ s b q. subst (λ (f : Found). Reached f s) (sym (lower-right a g h)) (l s b q);
+    })
+    (reached-or-below a g))
+  where
+    reached-up : (a : Found) (g s : ℕ) → Reached a g → g ≤ s → Reached a s
+    reached-up (State b) g s h k = omega arith
+    reached-up Nothing g s h k = absurd h
 
 module _ (p : ℕ → Bool) where
   abbrev P : ℕ → Type 0
@@ -99,20 +126,4 @@ module _ (p : ℕ → Bool) where
     where
       go : (o : Option ℕ) → LeastIs p (2 ^ 64) o → Finds P a (lower a (foundOf o))
       go none n = record { kept = inl (lower-none a); all = λ s h t. absurd (clash (p s) t (n s h)) }
-      go (some g) l = ⊎-elim
-          (λ h. record {
-            kept = inl (lower-left a g h);
-            all = λ s b t. subst (λ (f : Found). Reached f s) (sym (lower-left a g h)) (up a g s h (lowest s t));
-          })
-          (λ h. record {
-            kept = inr (g, lower-right a g h, l .below, l .passes, h);
-            all = λ s b t. subst (λ (f : Found). Reached f s) (sym (lower-right a g h)) (lowest s t);
-          })
-          (reached-or-below a g)
-        where
-          lowest : (s : ℕ) → p s ≡ true → g ≤ s
-          lowest s t = ⊎-elim (λ lt. absurd (clash (p s) t (l .least s lt))) (λ ge. ge) (lt-or-le s g)
-
-          up : (a : Found) (g s : ℕ) → Reached a g → g ≤ s → Reached a s
-          up (State b) g s h k = omega arith
-          up Nothing g s h k = absurd h
+      go (some g) l = finds-lower P a (lower a (State g)) g (l .below) (l .passes) (λ s b t. ⊎-elim (λ lt. absurd (clash (p s) t (l .least s lt))) (λ ge. ge) (lt-or-le s g)) refl

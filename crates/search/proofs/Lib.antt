@@ -5,3 +5,4 @@ pub mod Finding
 pub mod Branching
 pub mod Rising
 pub mod Varying
+pub mod Sifting

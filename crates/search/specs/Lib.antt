@@ -2,4 +2,5 @@
 
 pub mod Clauses
 pub mod Search
+pub mod Leaf
 pub mod Code

@@ -18,6 +18,8 @@ use Rattle.search.proofs.branch.Reads as branch
 use Rattle.search.proofs.branch.Kinds as branch-kinds
 use Rattle.search.proofs.+branch.Lts-branch as branch-lts
 use Rattle.search.proofs.first_shown.Reads as first-shown-reads
+use Rattle.search.proofs.is_leaf.Reads as is-leaf-reads
+use Rattle.search.proofs.leaf.Reads as leaf-reads
 use Rattle.search.proofs.reached.Reads as reached-reads
 use Rattle.space.proofs.take_out.Reads as take-out-reads
 
@@ -40,6 +42,10 @@ abbrev branch-claims : ℕ → branch-lts.Claims
 branch-claims t = (
   reached-reads.Asked,
   reached-reads.Learnt,
+  is-leaf-reads.Asked,
+  is-leaf-reads.Learnt,
+  leaf-reads.Asked,
+  leaf-reads.Learnt,
   first-shown-reads.Asked,
   first-shown-reads.Learnt,
   take-out-reads.Asked,
@@ -63,35 +69,51 @@ branch-returns : (t : ℕ) → branch-lts.Need-returns (branch-claims t) (branch
 branch-returns t c =
     let s = c .before .before .before in
     let a = s .args in
-    finds-lowest-clear (a .pattern) (a .table .now) (a .rows) (a .lowest) (take (a .free) (a .vectors)) (a .before) (a .before)
-    (finds-pruned (a .pattern) (a .table .now) (a .rows) (a .lowest) (take (a .free) (a .vectors)) (a .before) (s .pre .1 .0) (sym (c .before .reached .ensures) ∙ c .if1 .taken))
+    finds-lowest-clear (a .pattern) (a .table .now) (a .rows) (a .lowest) (take (a .free) (a .t5)) (a .before) (a .before)
+    (finds-pruned (a .pattern) (a .table .now) (a .rows) (a .lowest) (take (a .free) (a .t5)) (a .before) (s .pre .1 .0) (sym (c .before .reached .ensures) ∙ c .if1 .taken))
+
+branch-is-leaf-requires : (t : ℕ) → branch-lts.Need-is-leaf-requires (branch-claims t) (branch-at t) branch.Post branch-Inv-loop branch-μ-loop
+branch-is-leaf-requires t c κs = search needs
+
+branch-slice-aggregate-leaf : (t : ℕ) → branch-lts.Need-slice-aggregate-leaf (branch-claims t) (branch-at t) branch.Post branch-Inv-loop branch-μ-loop
+branch-slice-aggregate-leaf t c = search needs
+
+branch-leaf-requires : (t : ℕ) → branch-lts.Need-leaf-requires (branch-claims t) (branch-at t) branch.Post branch-Inv-loop branch-μ-loop
+branch-leaf-requires t c κs =
+    let s = c .before .before .before .before .before .before in
+    let z = c .before .before .is-leaf .ensures (c .before .if2 .taken) in
+    let n : length (s .args .t5) ≡ 64 = search needs in
+    ((z, omega (arith, z .few)), (s .pre .1 .0, s .pre .1 .1))
+
+branch-returns-2 : (t : ℕ) → branch-lts.Need-returns-2 (branch-claims t) (branch-at t) branch.Post branch-Inv-loop branch-μ-loop
+branch-returns-2 t c = c .leaf .ensures
 
 branch-first-shown-requires : (t : ℕ) → branch-lts.Need-first-shown-requires (branch-claims t) (branch-at t) branch.Post branch-Inv-loop branch-μ-loop
 branch-first-shown-requires t c κs = search needs
 
-branch-returns-2 : (t : ℕ) → branch-lts.Need-returns-2 (branch-claims t) (branch-at t) branch.Post branch-Inv-loop branch-μ-loop
-branch-returns-2 t c =
-    let s = c .before .before .before .before .before in
+branch-returns-3 : (t : ℕ) → branch-lts.Need-returns-3 (branch-claims t) (branch-at t) branch.Post branch-Inv-loop branch-μ-loop
+branch-returns-3 t c =
+    let s = c .before .before .before .before .before .before .before in
     let a = s .args in
-    finds-lowest-clear (a .pattern) (a .table .now) (a .rows) (a .lowest) (take (a .free) (a .vectors)) (a .before) _
-    (finds-lowest (a .pattern) (a .table .now) (a .rows) (a .lowest) (take (a .free) (a .vectors)) (a .before) (s .pre .1 .0) (omega arith)
-    (sym (c .before .before .before .reached .ensures) ∙ c .before .before .if1 .left)
-    (first-none (a .pattern) (a .table .now) (a .rows) (a .lowest) (c .before .first-shown .result) (c .before .first-shown .ensures) (c .if2 .taken)))
+    finds-lowest-clear (a .pattern) (a .table .now) (a .rows) (a .lowest) (take (a .free) (a .t5)) (a .before) _
+    (finds-lowest (a .pattern) (a .table .now) (a .rows) (a .lowest) (take (a .free) (a .t5)) (a .before) (s .pre .1 .0) (omega arith)
+    (sym (c .before .before .before .before .before .reached .ensures) ∙ c .before .before .before .before .if1 .left)
+    (first-none (a .pattern) (a .table .now) (a .rows) (a .lowest) (c .before .first-shown .result) (c .before .first-shown .ensures) (c .if3 .taken)))
 
 branch-mul-first : (t : ℕ) → branch-lts.Need-mul-first (branch-claims t) (branch-at t) branch.Post branch-Inv-loop branch-μ-loop
 branch-mul-first t c =
-    let s = c .before .before .before .before .before in
+    let s = c .before .before .before .before .before .before .before in
     let a = s .args in
     let r = c .before .first-shown in
-    let f = first-some (a .pattern) (a .table .now) (a .rows) (a .lowest) (r .result) (r .ensures) (c .if2 .left) in
+    let f = first-some (a .pattern) (a .table .now) (a .rows) (a .lowest) (r .result) (r .ensures) (c .if3 .left) in
     let g = row-fits (r .result) (a .rows) (a .pattern .columns) (length (a .table .now)) (f .0) (s .pre .1 .1) in
     search needs
 
 branch-loop-holds : (t : ℕ) → branch-lts.Need-loop-holds (branch-claims t) (branch-at t) branch.Post branch-Inv-loop branch-μ-loop
 branch-loop-holds t c =
-    let s = c .before .before .before .before .before in
+    let s = c .before .before .before .before .before .before .before in
     let a = s .args in
-    (search needs, branched-start (a .pattern) (a .table .now) (a .rows) (a .lowest) (take (a .free) (a .vectors)) (a .before) (c .before .first-shown .result) (s .pre .1 .0))
+    (search needs, branched-start (a .pattern) (a .table .now) (a .rows) (a .lowest) (take (a .free) (a .t5)) (a .before) (c .before .first-shown .result) (s .pre .1 .0))
 
 branch-slice-aggregate-take-out : (t : ℕ) → branch-lts.Need-slice-aggregate-take-out (branch-claims t) (branch-at t) branch.Post branch-Inv-loop branch-μ-loop
 branch-slice-aggregate-take-out t c = search needs
@@ -99,30 +121,30 @@ branch-slice-aggregate-take-out t c = search needs
 branch-add-take-out : (t : ℕ) → branch-lts.Need-add-take-out (branch-claims t) (branch-at t) branch.Post branch-Inv-loop branch-μ-loop
 branch-add-take-out t c =
     let i = c .before .before .before in
-    let s = i .before .before .before .before .before in
+    let s = i .before .before .before .before .before .before .before in
     let a = s .args in
     let r = i .before .first-shown in
-    let f = first-some (a .pattern) (a .table .now) (a .rows) (a .lowest) (r .result) (r .ensures) (i .if2 .left) in
+    let f = first-some (a .pattern) (a .table .now) (a .rows) (a .lowest) (r .result) (r .ensures) (i .if3 .left) in
     let g = row-fits (r .result) (a .rows) (a .pattern .columns) (length (a .table .now)) (f .0) (s .pre .1 .1) in
     search needs
 
 branch-mul-take-out : (t : ℕ) → branch-lts.Need-mul-take-out (branch-claims t) (branch-at t) branch.Post branch-Inv-loop branch-μ-loop
 branch-mul-take-out t c =
     let i = c .before .before .before in
-    let s = i .before .before .before .before .before in
+    let s = i .before .before .before .before .before .before .before in
     let a = s .args in
     let r = i .before .first-shown in
-    let f = first-some (a .pattern) (a .table .now) (a .rows) (a .lowest) (r .result) (r .ensures) (i .if2 .left) in
+    let f = first-some (a .pattern) (a .table .now) (a .rows) (a .lowest) (r .result) (r .ensures) (i .if3 .left) in
     let g = row-fits (r .result) (a .rows) (a .pattern .columns) (length (a .table .now)) (f .0) (s .pre .1 .1) in
     search needs
 
 branch-shared-slice-read-take-out : (t : ℕ) → branch-lts.Need-shared-slice-read-take-out (branch-claims t) (branch-at t) branch.Post branch-Inv-loop branch-μ-loop
 branch-shared-slice-read-take-out t c =
     let i = c .before .before .before .before in
-    let s = i .before .before .before .before .before in
+    let s = i .before .before .before .before .before .before .before in
     let a = s .args in
     let r = i .before .first-shown in
-    let f = first-some (a .pattern) (a .table .now) (a .rows) (a .lowest) (r .result) (r .ensures) (i .if2 .left) in
+    let f = first-some (a .pattern) (a .table .now) (a .rows) (a .lowest) (r .result) (r .ensures) (i .if3 .left) in
     let g = row-fits (r .result) (a .rows) (a .pattern .columns) (length (a .table .now)) (f .0) (s .pre .1 .1) in
     search needs
 
@@ -133,17 +155,17 @@ branch-branch-requires : (t : ℕ) → branch-lts.Need-branch-requires (branch-c
 branch-branch-requires t c κs =
     let l = c .before .before .before .before .before .before .before .before .loop in
     let i = c .before .before .before .before .before .before .before .before .before in
-    let s = i .before .before .before .before .before in
+    let s = i .before .before .before .before .before .before .before in
     let a = s .args in
     let r = i .before .first-shown in
     let o = c .before .before .before .before .take-out in
     let mask = getD (a .table .now) (r .result * a .pattern .columns + l .position) 0 in
     let e = ap (λ (u : Taken). u .pivot) (o .ensures .0) in
-    let n : pivot mask (take (l .left) (l .rest)) ≡ 0 → ⊥ = λ z. c .before .if3 .taken (e ∙ z) in
+    let n : pivot mask (take (l .left) (l .rest)) ≡ 0 → ⊥ = λ z. c .before .if4 .taken (e ∙ z) in
     let w = taken-left mask (take (l .left) (l .rest)) (o .last .0) _ (o .result) (o .ensures .0) (o .ensures .1) in
     let lt = c .before .before .before .before .before .before .before .loop-test .taken in (
-      omega (arith, ap length w, s .pre .0, child-shorter (a .pattern) (a .table .now) (a .rows) (a .lowest) (take (a .free) (a .vectors)) (a .before) (r .result) (take (l .left) (l .rest)) (l .found) (l .found) (l .position) lt n (l .inv .1)),
-      (rw (w, e) (child-rising (a .pattern) (a .table .now) (a .rows) (a .lowest) (take (a .free) (a .vectors)) (a .before) (r .result) (take (l .left) (l .rest)) (l .found) (l .found) (l .position) lt n (l .inv .1)), s .pre .1 .1),
+      omega (arith, ap length w, s .pre .0, child-shorter (a .pattern) (a .table .now) (a .rows) (a .lowest) (take (a .free) (a .t5)) (a .before) (r .result) (take (l .left) (l .rest)) (l .found) (l .found) (l .position) lt n (l .inv .1)),
+      (rw (w, e) (child-rising (a .pattern) (a .table .now) (a .rows) (a .lowest) (take (a .free) (a .t5)) (a .before) (r .result) (take (l .left) (l .rest)) (l .found) (l .found) (l .position) lt n (l .inv .1)), s .pre .1 .1),
     )
 
 branch-add-position : (t : ℕ) → branch-lts.Need-add-position (branch-claims t) (branch-at t) branch.Post branch-Inv-loop branch-μ-loop
@@ -156,7 +178,7 @@ branch-loop-again : (t : ℕ) → branch-lts.Need-loop-again (branch-claims t) (
 branch-loop-again t c =
     let l = c .before .before .before .before .before .before .before .loop in
     let i = c .before .before .before .before .before .before .before .before in
-    let s = i .before .before .before .before .before in
+    let s = i .before .before .before .before .before .before .before in
     let a = s .args in
     let r = i .before .first-shown in
     let o = c .before .before .before .take-out in
@@ -167,22 +189,22 @@ branch-loop-again t c =
       o .kept .0 ∙ l .inv .0,
       rw w (⊎-elim
           (λ v.
-          rw (v .3) (branched-child (a .pattern) (a .table .now) (a .rows) (a .lowest) (take (a .free) (a .vectors)) (a .before) (r .result) (take (l .left) (l .rest)) (l .found) (v .2 .result) (l .position) lt (λ z. v .0 .taken (e ∙ z)) (l .inv .1)
+          rw (v .3) (branched-child (a .pattern) (a .table .now) (a .rows) (a .lowest) (take (a .free) (a .t5)) (a .before) (r .result) (take (l .left) (l .rest)) (l .found) (v .2 .result) (l .position) lt (λ z. v .0 .taken (e ∙ z)) (l .inv .1)
           (lowest-clear-finds (a .pattern) (a .table .now) (a .rows) _ _ (l .found) (v .2 .result) (rw (w, e) at (v .2 .ensures)))))
-          (λ v. rw (v .1) (branched-same (a .pattern) (a .table .now) (a .rows) (a .lowest) (take (a .free) (a .vectors)) (a .before) (r .result) (take (l .left) (l .rest)) (l .found) (l .position) lt (sym e ∙ v .0 .left) (l .inv .1)))
-          (c .if3 .came)),
+          (λ v. rw (v .1) (branched-same (a .pattern) (a .table .now) (a .rows) (a .lowest) (take (a .free) (a .t5)) (a .before) (r .result) (take (l .left) (l .rest)) (l .found) (l .position) lt (sym e ∙ v .0 .left) (l .inv .1)))
+          (c .if4 .came)),
     )
 
-branch-returns-3 : (t : ℕ) → branch-lts.Need-returns-3 (branch-claims t) (branch-at t) branch.Post branch-Inv-loop branch-μ-loop
-branch-returns-3 t c =
+branch-returns-4 : (t : ℕ) → branch-lts.Need-returns-4 (branch-claims t) (branch-at t) branch.Post branch-Inv-loop branch-μ-loop
+branch-returns-4 t c =
     let l = c .before .loop in
     let i = c .before .before in
-    let s = i .before .before .before .before .before in
+    let s = i .before .before .before .before .before .before .before in
     let a = s .args in
     let t = i .before .first-shown in
-    let f = first-some (a .pattern) (a .table .now) (a .rows) (a .lowest) (t .result) (t .ensures) (i .if2 .left) in
-    finds-lowest-clear (a .pattern) (a .table .now) (a .rows) (a .lowest) (take (a .free) (a .vectors)) (a .before) (l .found)
-    (branched-end (a .pattern) (a .table .now) (a .rows) (a .lowest) (take (a .free) (a .vectors)) (a .before) (t .result) (take (l .left) (l .rest)) (l .found) (l .position) (omega arith) (f .0) (s .pre .1 .1) (f .1) (l .inv .1))
+    let f = first-some (a .pattern) (a .table .now) (a .rows) (a .lowest) (t .result) (t .ensures) (i .if3 .left) in
+    finds-lowest-clear (a .pattern) (a .table .now) (a .rows) (a .lowest) (take (a .free) (a .t5)) (a .before) (l .found)
+    (branched-end (a .pattern) (a .table .now) (a .rows) (a .lowest) (take (a .free) (a .t5)) (a .before) (t .result) (take (l .left) (l .rest)) (l .found) (l .position) (omega arith) (f .0) (s .pre .1 .1) (f .1) (l .inv .1))
 
 pub +branch-spec : {M : Type 1} → statement M
 +branch-spec = close μ-branch λ t. branch-lts.spec
@@ -193,8 +215,12 @@ pub +branch-spec : {M : Type 1} → statement M
     branch-μ-loop
     (branch-reached-requires t)
     (branch-returns t)
-    (branch-first-shown-requires t)
+    (branch-is-leaf-requires t)
+    (branch-slice-aggregate-leaf t)
+    (branch-leaf-requires t)
     (branch-returns-2 t)
+    (branch-first-shown-requires t)
+    (branch-returns-3 t)
     (branch-mul-first t)
     (branch-loop-holds t)
     (branch-slice-aggregate-take-out t)
@@ -206,4 +232,4 @@ pub +branch-spec : {M : Type 1} → statement M
     (branch-add-position t)
     (branch-loop-less t)
     (branch-loop-again t)
-    (branch-returns-3 t)
+    (branch-returns-4 t)
