@@ -3,6 +3,7 @@
 --     Reached found s      what was found is s or lower
 --     Finds Passes a r     r is a or a passing state below it, and every passing state is reached by r
 --     kept-on, reached-on  one search after another
+--     kept-state           a state that was found passes
 --     lower-reached, lower-not     the lower of a and a state, by the test whether a is as low
 --     finds-lower          the lower of a and the lowest passing state
 --     finds-is, is-finds   r is the lower of a and the lowest state that passes: the same as an equation
@@ -61,6 +62,11 @@ module _ (P : ℕ → Type 0) where
         sub (n .0) (n .3),
         below-on a (n .0) (k .0) (subst (λ (f : Found). Below f (n .0)) (k .1) (n .4)) (k .4),
       )
+
+-- a state that was found where nothing was before
+pub kept-state : (P : ℕ → Type 0) (r : Found) (s : ℕ) → r ≡ State s → Kept P Nothing r → (s < 2 ^ 64) × P s
+kept-state P r s e (inl q) = absurd (let z : _≡_ {A = ℕ} 0 1 = cc in omega arith)
+kept-state P r s e (inr k) = let q : k .0 ≡ s = cc in subst (λ (t : ℕ). (t < 2 ^ 64) × P t) q (k .2, k .3)
 
 -- ---- the same as an equation with the least state that passes a test
 

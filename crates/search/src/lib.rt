@@ -443,8 +443,8 @@ fn branch(
     found
 }
 
-// A clear member of the space, or nothing, by its blocks in rising order: those members that add a vector and any before it, from the first vector on. Where clear members are many, an early block has one, and everything later is left at once.
-// Whether it is the lowest is not promised.
+// The first members of a space in rising order: those of its first vectors, then block by block those that add one vector more. Where clear members are many, an early block has one, and everything later is left at once.
+// A state that it finds is the lowest clear member; where it finds none, nothing is promised.
 fn rise(
     pattern: Pattern,
     table: &[u64],
@@ -455,22 +455,22 @@ fn rise(
 ) -> Found
     requires { ⌜ Rising lowest 0 (take free vectors) ⌝ }
     requires { ⌜ rows * pattern .columns ≤ length (now table) ⌝ }
-    ensures { λ r. ⌜ Kept (λ s. (among lowest (take free vectors) s && clear pattern (now (table .entry)) rows s) ≡ true) Nothing r ⌝ }
+    ensures { λ r. ⌜ ((s : ℕ) → r ≡ State s → r ≡ lowestClear pattern (now (table .entry)) rows lowest (take free vectors)) ⌝ }
 {
     let most = bounded::lesser(free, 64);
-    let mut found = Found::Nothing;
-    let mut vector: usize = 0;
-    while vector + LAST_VECTORS < most {
+    let mut count = bounded::lesser(most, LEAF_VECTORS);
+    let mut found = branch(pattern, table, rows, lowest, vectors, count, Found::Nothing);
+    while count + LAST_VECTORS < most {
         found = branch(
             pattern,
             table,
             rows,
-            lowest ^ vectors[vector],
+            lowest ^ vectors[count],
             vectors,
-            vector,
+            count,
             found,
         );
-        vector += 1;
+        count += 1;
     }
     found
 }
@@ -492,6 +492,11 @@ pub fn lowest_clear(
     if all_show(pattern, table, rows, lowest, &vectors, free) {
         return Found::Nothing;
     }
-    let found = rise(pattern, table, rows, lowest, vectors, free);
-    branch(pattern, table, rows, lowest, vectors, free, found)
+    if LEAF_VECTORS < free {
+        let found = rise(pattern, table, rows, lowest, vectors, free);
+        if let Found::State(state) = found {
+            return Found::State(state);
+        }
+    }
+    branch(pattern, table, rows, lowest, vectors, free, Found::Nothing)
 }

@@ -2,6 +2,7 @@
 --     pick-skip, pick-take     the first vector left out or added
 --     pick-add                 what is added to x is added to each member
 --     pick-split               the first vectors go by the low digits of the number, the others by its high digits
+--     pick-front               a number of the first vectors alone
 --     pick-last                one vector more at the end
 --     pick-among, among-pick   each number is a member, and each member has a number
 --     pick-rises               a higher number is a higher member
@@ -75,6 +76,17 @@ pick-split (u ∷ us) vs x g i h =
         ∙ xor-swap (pick x vs g) u (pick 0 us (i / 2))
         ∙ xor-assoc (pick x vs g) (pick 0 us (i / 2)) u
         ∙ ap (bitXor (pick x vs g)) (sym (pick-add us 0 u (i / 2)))
+
+-- number 0 is the lowest
+pick-none : (vs : List ℕ) (x : ℕ) → pick x vs 0 ≡ x
+unfolding pick
+pick-none [] x = refl
+pick-none (v ∷ vs) x = pick-none vs x
+
+pub pick-front : (us vs : List ℕ) (x i : ℕ) → i < 2 ^ length us → pick x (us ++ vs) i ≡ pick x us i
+unfolding pick
+pick-front [] vs x i h = let z : i ≡ 0 = omega arith in rw z (pick-none vs x)
+pick-front (u ∷ us) vs x i h = pick-front us vs (choose (i % 2) x (bitXor x u)) (i / 2) (let w = twice (length us) in omega arith)
 
 pub pick-last : (es : List ℕ) (x v i : ℕ) → pick x (es ++ v ∷ []) i ≡ choose (digit i (length es)) (pick x es i) (bitXor (pick x es i) v)
 unfolding pick

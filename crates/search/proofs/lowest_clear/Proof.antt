@@ -1,9 +1,9 @@
 -- `search::lowest_clear` meets its contract. Assumes nothing.
+use mathlib.Core.Path.{sym, _∙_}
 use lib.ListN.{take}
-use borrow.Author.Needs.{needs}
 use Rattle.search.specs.declared.Found.the-variants.{Nothing}
-use Rattle.search.proofs.Rising.{rise-then}
 use Rattle.search.proofs.Varying.{finds-none}
+use borrow.Author.Needs.{needs}
 use Rattle.search.proofs.lowest_clear.Statement.{statement}
 use Rattle.search.proofs.lowest_clear.Tie as tie
 
@@ -21,13 +21,22 @@ returns c =
 rise-requires : tie.Need-rise-requires
 rise-requires c κs = search needs
 
-branch-requires : tie.Need-branch-requires
-branch-requires c κs = search needs
+enum-known-found : tie.Need-enum-known-found
+enum-known-found c = search needs
 
 returns-2 : tie.Need-returns-2
 returns-2 c =
-    let a = c .before .before .before .before .before .before .args in
-    rise-then (a .pattern) (a .table .now) (a .rows) (a .lowest) (take (a .free) (a .t5)) Nothing (c .before .rise .result) (c .branch .result) (c .before .rise .ensures) (c .branch .ensures)
+    let e = c .before .found .given .1 in
+    sym e ∙ c .before .before .before .rise .ensures _ e
+
+enum-told : tie.Need-enum-told
+enum-told c = search needs
+
+branch-requires : tie.Need-branch-requires
+branch-requires c κs = search needs
+
+returns-3 : tie.Need-returns-3
+returns-3 c = search needs
 
 pub lowest-clear-spec : {M : Type 1} → statement M
 lowest-clear-spec =
@@ -37,5 +46,8 @@ lowest-clear-spec =
     all-show-requires
     returns
     rise-requires
+    enum-known-found
+    returns-2
+    enum-told
     branch-requires
-    returns-2)
+    returns-3)
