@@ -39,7 +39,7 @@ use Rattle.table.proofs.Choosing.{chosen-take, chosen-skip, chosen-map}
 use Rattle.table.proofs.Packing.{packed-take, packed-skip}
 use Rattle.covering.specs.Covering.{fits, quiet, covers}
 use Rattle.window.specs.Ready.{Ready}
-use Rattle.window.specs.Code.{meets, allMeet, allowed}
+use Rattle.window.specs.Code.{meets, allMeet, allowed, closed}
 use Rattle.window.proofs.Meeting.{meets-take, meets-skip}
 
 -- ---- one slice
@@ -182,7 +182,7 @@ module _ (g : Settings) (masks : List ℕ) (stop : TestSlice) (p : Pattern) (tab
       (λ q. at-quiet m 0 s (omega arith) (λ u l. (let e : 0 + u ≡ u = omega arith in rw e (clear-at p clauses s m u q l))))
 
   pub fits-allowed : (w : List TestSlice) (closing : Bool) (s : ℕ) → length w < n → any (badSlice c) w ≡ false → fits M stop closing w s ≡ allowed c table stop closing w s
-  unfolding allowed steps
+  unfolding allowed closed steps
   fits-allowed w closing s h f = let e : 0 + length w ≡ length w = omega arith in (rw e at (fits-from w closing 0 s (omega arith) f))
 
   pub covers-tables : (w : List TestSlice) (closing : Bool) (s : ℕ) → length w < n → any (badSlice c) w ≡ false

@@ -3,8 +3,9 @@
 --     meet-last         one slice more
 --     meet-front        who meets more slices meets fewer
 --     Fitted            what the loop keeps: the members that meet the slices so far
---     allowed-closed, allowed-open     the closing stop after the slices, or none
---     fitted-start, fitted-next, fitted-stop, fitted-end     at the start, after a slice, where nothing is left, and at the end
+--     fitted-start, fitted-next, fitted-none, fitted-end     at the start, after a slice, where nothing is left, and at the end
+--     closed-yes, closed-no     the closing stop after the slices, or none
+--     allowed-closed    the slices and the closing stop
 -- Assumes nothing.
 use mathlib.Core.Path.{_≡_, refl, sym, ap, ap₂, _∙_}
 use mathlib.Core.Bool.{Bool, true, false, _&&_, and-true, and-assoc}
@@ -21,7 +22,7 @@ use Rattle.slices.specs.declared.TestSlice.{TestSlice}
 use Rattle.slices.specs.Slices.{paired, badSlices}
 use Rattle.slices.proofs.Causes.{sliceAt}
 use Rattle.slices.proofs.Formed.{slices-length, slices-at}
-use Rattle.window.specs.Code.{meets, allMeet, allowed, Member, Narrows, Fits}
+use Rattle.window.specs.Code.{meets, allMeet, closed, allowed, Member, Narrows}
 use Rattle.window.proofs.Narrowing.{narrows-none, narrows-same, narrows-then}
 
 pub row-part : (c : ℕ) (table : List ℕ) (t : ℕ) → take (t * c + c - t * c) (drop (t * c) table) ≡ row c table t
@@ -74,38 +75,28 @@ module _ (c : ℕ) (table : List ℕ) where
         (λ s. sym (ap (λ (n : ℕ). Q n s) (add-one k) ∙ meet-last w 0 k s d (omega (arith, long)) ∙ ap₂ (λ (n : ℕ) (t : TestSlice). Q k s && Meets n t s) e (slices-at c ps bs b k d h)))
         (narrows-then (Q k) (Meets k d) x us y vs z ws f g)
 
-    none : (k : ℕ) (z : Space) (ws : List ℕ) → Fitted w x us k z ws → z .some ≡ false → (s : ℕ) → Member x us s → Q k s ≡ true → ⊥
-    none k z ws f e s m q = clash (z .some) (f .complete s m q .0) e
+    -- where no member is left, none meets so many slices or more
+    pub fitted-none : (k : ℕ) (z : Space) (ws : List ℕ) → Fitted w x us k z ws → z .some ≡ false → (j s : ℕ) → k ≤ j → Member x us s → Q j s ≡ false
+    fitted-none k z ws f e j s l m = fails (Q j s) (λ q. clash (z .some) (f .complete s m (meet-front w 0 k j s l q) .0) e)
 
-    pub fitted-stop : (k : ℕ) (z : Space) (ws : List ℕ) → k < length ps → Fitted w x us (k + 1) z ws → z .some ≡ false → Fits c table w x us (record { space = z; slices = k }) ws
-    fitted-stop k z ws h f e = record {
-      within = omega (arith, long);
-      whole = record {
-        sound = λ s m. absurd (clash (z .some) (m .0) e);
-        complete = λ s m q. absurd (none (k + 1) z ws f e s m (meet-front w 0 (k + 1) (length w) s (omega (arith, long)) (rw (take-all (length w) w (omega arith)) q)));
-        rising = λ r t. absurd (clash (z .some) t e);
-      };
-      more = λ j s l b m. fails (Q j s) (λ q. none (k + 1) z ws f e s m (meet-front w 0 (k + 1) j s (omega arith) q));
-    }
-
-    pub fitted-end : (k : ℕ) (z : Space) (ws : List ℕ) → k ≤ length ps → length ps ≤ k → Fitted w x us k z ws → Fits c table w x us (record { space = z; slices = k }) ws
-    fitted-end k z ws h l f = record {
-      within = omega (arith, long);
-      whole = narrows-same (Q k) (allMeet c table 0 w) x us z ws (λ s. ap (λ (v : List TestSlice). allMeet c table 0 v s) (take-all k w (omega (arith, long)))) f;
-      more = λ j s a b m. absurd (omega (arith, long));
-    }
+    pub fitted-end : (k : ℕ) (z : Space) (ws : List ℕ) → length ps ≤ k → Fitted w x us k z ws → Narrows (allMeet c table 0 w) x us z ws
+    fitted-end k z ws l f = narrows-same (Q k) (allMeet c table 0 w) x us z ws (λ s. ap (λ (v : List TestSlice). allMeet c table 0 v s) (take-all k w (omega (arith, long)))) f
 
 -- ---- with the closing stop, and without
 
-module _ (c : ℕ) (table : List ℕ) (stop : TestSlice) (w : List TestSlice) (x : Space) (us : List ℕ) (y : Space) (vs : List ℕ) where
-  pub allowed-closed : (z : Space) (ws : List ℕ) (closing : Bool) (n : ℕ) → closing ≡ true → length w ≡ n → Narrows (allMeet c table 0 w) x us y vs
-      → Narrows (meets (row c table n) (stop .specified) (stop .bits)) y vs z ws → Narrows (allowed c table stop closing w) x us z ws
-  unfolding allowed
-  allowed-closed z ws closing n e l f g =
-      narrows-same (λ s. allMeet c table 0 w s && meets (row c table n) (stop .specified) (stop .bits) s) (allowed c table stop closing w) x us z ws
-      (λ s. rw (e, l))
-      (narrows-then (allMeet c table 0 w) (meets (row c table n) (stop .specified) (stop .bits)) x us y vs z ws f g)
+module _ (c : ℕ) (table : List ℕ) (stop : TestSlice) (n : ℕ) (y : Space) (vs : List ℕ) where
+  pub closed-yes : (z : Space) (ws : List ℕ) (closing : Bool) → closing ≡ true → Narrows (meets (row c table n) (stop .specified) (stop .bits)) y vs z ws → Narrows (closed c table stop closing n) y vs z ws
+  unfolding closed
+  closed-yes z ws closing e g = narrows-same (meets (row c table n) (stop .specified) (stop .bits)) (closed c table stop closing n) y vs z ws (λ s. rw e) g
 
-  pub allowed-open : (closing : Bool) → closing ≡ false → Narrows (allMeet c table 0 w) x us y vs → Narrows (allowed c table stop closing w) x us y vs
-  unfolding allowed
-  allowed-open closing e f = narrows-same (allMeet c table 0 w) (allowed c table stop closing w) x us y vs (λ s. rw e (sym (and-true (allMeet c table 0 w s)))) f
+  pub closed-no : (closing : Bool) → closing ≡ false → Narrows (closed c table stop closing n) y vs y vs
+  unfolding closed
+  closed-no closing e = narrows-same (λ s. true) (closed c table stop closing n) y vs y vs (λ s. rw e) (narrows-none y vs)
+
+pub allowed-closed : (c : ℕ) (table : List ℕ) (stop : TestSlice) (w : List TestSlice) (x : Space) (us : List ℕ) (y : Space) (vs : List ℕ) (z : Space) (ws : List ℕ) (closing : Bool) (n : ℕ) → length w ≡ n
+    → Narrows (allMeet c table 0 w) x us y vs → Narrows (closed c table stop closing n) y vs z ws → Narrows (allowed c table stop closing w) x us z ws
+unfolding allowed
+allowed-closed c table stop w x us y vs z ws closing n l f g =
+    narrows-same (λ s. allMeet c table 0 w s && closed c table stop closing n s) (allowed c table stop closing w) x us z ws
+    (λ s. rw l)
+    (narrows-then (allMeet c table 0 w) (closed c table stop closing n) x us y vs z ws f g)

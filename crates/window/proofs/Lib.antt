@@ -6,5 +6,6 @@ pub mod Clauses
 pub mod Fitting
 pub mod Covering
 pub mod Seeds
+pub mod Growing
 pub mod Reaching
 pub mod Calls

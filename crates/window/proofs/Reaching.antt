@@ -26,7 +26,7 @@ use Rattle.covering.specs.Covering.{seedOf}
 use Rattle.covering.specs.Windows.{found}
 use Rattle.window.specs.Ready.{Ready}
 use Rattle.window.specs.Longest.{closesAt, seedFor, longest, reachOf}
-use Rattle.window.specs.Code.{Unmet}
+use Rattle.window.specs.Code.{Grown}
 use Rattle.window.proofs.Seeds.{unmet}
 
 module _ (M : Machine) (stop : TestSlice) (closing : Bool) (w : List TestSlice) where
@@ -75,9 +75,9 @@ module _ (g : Settings) (masks : List ℕ) (stop : TestSlice) (p : Pattern) (tab
   long : length w ≡ length ps
   long = slices-length (length masks) ps bs b
 
-  pub passed-start : (k : ℕ) → Unmet (length masks) table w (g .cells) k → Passed M stop closing w k
+  pub passed-start : (spaces : List ℕ) (k : ℕ) → Grown (length masks) table w (g .cells) spaces k → Passed M stop closing w k
   unfolding seedFor
-  passed-start k u = record {
+  passed-start spaces k u = record {
     within = u .within;
     longer = λ j l m.
         unmet g masks stop p table clauses (suc (length ps)) (take j w) r (omega (arith, long, length-take j w))

@@ -4,7 +4,6 @@
 --     seed-none        nothing is allowed: no state covers
 --     seed-lowest      otherwise the seed is the lowest clear member
 --     unmet            nor is there a seed where no state meets the slices
---     unmet-more       how many slices can be met together
 -- Assumes nothing.
 use mathlib.Core.Path.{_≡_, refl, sym, ap, _∙_, subst}
 use mathlib.Core.Bool.{Bool, true, false, _&&_}
@@ -32,8 +31,7 @@ use Rattle.search.specs.Clauses.{clear}
 use Rattle.search.specs.Search.{foundOf, lowestClear}
 use Rattle.covering.specs.Covering.{covers, seedOf}
 use Rattle.window.specs.Ready.{Tabled, Ready}
-use Rattle.window.specs.Code.{allMeet, allowed, allStates, Member, Narrows, Fits, Unmet}
-use Rattle.window.specs.declared.Met.{Met}
+use Rattle.window.specs.Code.{allMeet, allowed, allStates, unitsOf, Member, Narrows}
 use Rattle.window.proofs.Covering.{covers-tables}
 
 tabled-fewer : (taps m n : ℕ) (masks table : List ℕ) → m ≤ n → Tabled taps n masks table → Tabled taps m masks table
@@ -54,9 +52,6 @@ ready-fewer g masks stop p table clauses m n h r = record {
 }
 
 -- ---- all states
-
-abbrev pub unitsOf : ℕ → List ℕ
-unitsOf cells = take cells (units 0 64)
 
 module _ (cells : ℕ) (few : cells ≤ 64) where
   abbrev U : List ℕ
@@ -123,9 +118,3 @@ module _ (g : Settings) (masks : List ℕ) (stop : TestSlice) (p : Pattern) (tab
       fails (covers M stop closing w s) (λ t.
       let a = both (allowed c table stop closing w s) (clear p clauses (length w) s) (sym (table-covers closing s) ∙ t) in
       clash (allMeet c table 0 w s) (both (allMeet c table 0 w s) _ (a .0) .0) (u s l)))
-
-pub unmet-more : (cells : ℕ) → cells ≤ 64 → (c : ℕ) (table : List ℕ) (w : List TestSlice) (r : Met) (vs : List ℕ) → Fits c table w (allStates cells) (unitsOf cells) r vs → Unmet c table w cells (r .slices)
-unmet-more cells few c table w r vs f = record {
-  within = f .within;
-  more = λ j s l m h. f .more j s l m (states-complete cells few s h);
-}

@@ -3,22 +3,24 @@
 --     allMeet c table t w s   so it is of the slices of w, from row t of the table on
 --     Member y vs s           s is a member of the space y with the vectors vs
 --     Narrows Q y vs z ws         the members of z are exactly those of y that pass Q, and the vectors rise still
---     Fits c table w x us r vs     r holds the members of x that meet all slices w; no member meets more of them, from the first on, than r says
---     Unmet c table w cells k     no state meets more than k of the slices w from the first on
---     allStates cells         the space of all states, over the unit vectors
---     allowed c table stop closing w s     s meets the slices w and, where it must close, shows the stop after them
+--     allStates cells, unitsOf cells     the space of all states, and its vectors
+--     closed c table stop closing n s    s shows the stop after n slices, where it must
+--     allowed c table stop closing w s   s meets the slices w and, where it must close, shows the stop after them
+--     heldVectors spaces a f      f vectors of a space that is written from the place a on: its lowest member, how many vectors it has, and those
+--     Holds spaces a x f vs       the space of x and the vectors vs is written there
+--     HeldAt c table w cells spaces k     the states that meet the first k slices of w are the space number k, counted from 1
+--     Grown c table w cells spaces k      so it is up to k slices and up to 256, and no state meets more than k of them from the first on
 use mathlib.Core.Path.{_≡_}
 use mathlib.Core.Bool.{Bool, true, false, not, _&&_, _||_}
 use mathlib.Core.List.{List, [], _∷_}
-use Prim.Native.Nat.{ℕ, suc, _^_, _/_, _%_, _≤_, _<_}
+use Prim.Native.Nat.{ℕ, suc, _+_, _-_, _*_, _^_, _/_, _%_, _≤_, _<_}
 use lib.Dec.{eqb}
-use lib.ListN.{length, take}
+use lib.ListN.{drop, getD, length, take}
 use Rattle.gf2.specs.Words.{odd}
 use Rattle.space.specs.declared.Space.{Space}
-use Rattle.space.specs.Space.{among, Rising}
+use Rattle.space.specs.Space.{among, units, Rising}
 use Rattle.search.specs.Clauses.{row}
 use Rattle.slices.specs.declared.TestSlice.{TestSlice}
-use Rattle.window.specs.declared.Met.{Met}
 
 unfoldable pub meets : List ℕ → ℕ → ℕ → ℕ → Bool
 meets [] p b s = true
@@ -36,18 +38,34 @@ pub record Narrows (Q : ℕ → Bool) (y : Space) (vs : List ℕ) (z : Space) (w
   pub complete : (s : ℕ) → Member y vs s → Q s ≡ true → Member z ws s
   pub rising : Rising (y .lowest) 0 vs → z .some ≡ true → Rising (z .lowest) 0 ws
 
-pub record Fits (c : ℕ) (table : List ℕ) (w : List TestSlice) (x : Space) (us : List ℕ) (r : Met) (vs : List ℕ) : Type 0 where
-  pub within : r .slices ≤ length w
-  pub whole : Narrows (allMeet c table 0 w) x us (r .space) vs
-  pub more : (j s : ℕ) → r .slices < j → j ≤ length w → Member x us s → allMeet c table 0 (take j w) s ≡ false
-
 abbrev pub allStates : ℕ → Space
 allStates cells = record { lowest = 0; free = cells; some = true }
 
+abbrev pub unitsOf : ℕ → List ℕ
+unitsOf cells = take cells (units 0 64)
+
+unfoldable pub closed : ℕ → List ℕ → TestSlice → Bool → ℕ → ℕ → Bool
+closed c table stop closing n s = not closing || meets (row c table n) (stop .specified) (stop .bits) s
+
 -- The bits alone, and with the closing stop.
 unfoldable pub allowed : ℕ → List ℕ → TestSlice → Bool → List TestSlice → ℕ → Bool
-allowed c table stop closing w s = allMeet c table 0 w s && (not closing || meets (row c table (length w)) (stop .specified) (stop .bits) s)
+allowed c table stop closing w s = allMeet c table 0 w s && closed c table stop closing (length w) s
 
-pub record Unmet (c : ℕ) (table : List ℕ) (w : List TestSlice) (cells k : ℕ) : Type 0 where
+unfoldable pub heldVectors : List ℕ → ℕ → ℕ → List ℕ
+heldVectors spaces a f = take f (take 64 (drop (a + 2) spaces))
+
+pub record Holds (spaces : List ℕ) (a x f : ℕ) (vs : List ℕ) : Type 0 where
+  pub lowest : getD spaces a 0 ≡ x
+  pub free : getD spaces (a + 1) 0 ≡ f
+  pub vectors : heldVectors spaces a f ≡ vs
+
+-- Space number k is written from the place (k - 1) * 66 on.
+abbrev pub HeldAt : ℕ → List ℕ → List TestSlice → ℕ → List ℕ → ℕ → Type 0
+HeldAt c table w cells spaces k =
+    Narrows (allMeet c table 0 (take k w)) (allStates cells) (unitsOf cells)
+    (record { lowest = getD spaces ((k - 1) * 66) 0; free = getD spaces ((k - 1) * 66 + 1) 0; some = true }) (heldVectors spaces ((k - 1) * 66) (getD spaces ((k - 1) * 66 + 1) 0))
+
+pub record Grown (c : ℕ) (table : List ℕ) (w : List TestSlice) (cells : ℕ) (spaces : List ℕ) (k : ℕ) : Type 0 where
   pub within : k ≤ length w
+  pub held : (j : ℕ) → 0 < j → j ≤ k → j ≤ 256 → HeldAt c table w cells spaces j
   pub more : (j s : ℕ) → k < j → j ≤ length w → s < 2 ^ cells → allMeet c table 0 (take j w) s ≡ false

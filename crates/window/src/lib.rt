@@ -12,7 +12,7 @@ ghost use mathlib.Core.List.{_++_};
 ghost use mathlib.Core.Option.{Option};
 ghost use mathlib.Core.Path.{_≡_};
 ghost use Prim.Native.Nat.{ℕ, suc, _+_, _*_, _^_, _<_, _≤_};
-ghost use lib.ListN.{drop, length, take};
+ghost use lib.ListN.{drop, getD, length, take};
 ghost use Rattle.register.specs.Machine.{base, machine};
 ghost use Rattle.slices.specs.Slices.{badSlices, paired};
 ghost use Rattle.checks.specs.Order.{judged};
@@ -26,21 +26,20 @@ ghost use Rattle.search.specs.Search.{foundOf};
 ghost use Rattle.search.specs.Clauses.{row as rowOf};
 ghost use Rattle.window.specs.Ready.{patternOf, Ready};
 ghost use Rattle.window.specs.Longest.{reachOf};
-ghost use Rattle.window.specs.Code.{allStates, allowed, Narrows, Fits, meets, Unmet};
+ghost use Rattle.window.specs.Code.{allMeet, allStates, closed, Grown, HeldAt, heldVectors, Holds, meets, Narrows, unitsOf};
 
 // The most entries of a table: rows 0 to 256 of 64 chains.
 pub const MOST_ENTRIES: usize = 16448;
+
+// Up to how many slices the space of those that meet them is kept, and the entries for these spaces: a lowest member, a number of vectors, and 64 vectors each.
+const MOST_KEPT: usize = 256;
+
+const KEPT_ENTRIES: usize = 16896;
 
 // The longest window from a start: how many slices it takes, and its seed; 0 and 0 where there is none.
 pub struct Window {
     pub slices: usize,
     pub seed: u64,
-}
-
-// What is left of a space after the slices of a window: its members, and how many of the slices they meet from the first on.
-struct Met {
-    space: Space,
-    slices: usize,
 }
 
 // The table of the stop's chains, and the stop slice without its unspecified positions; every other entry stays as it was.
@@ -107,7 +106,7 @@ fn meet_row(
     )
 }
 
-// The members of a space whose slices agree with the window, row by row; it ends at the first slice that none of them meets.
+// The members of a space whose slices agree with the window, row by row.
 fn fit(
     vectors: &mut [u64],
     space: Space,
@@ -115,10 +114,10 @@ fn fit(
     chains: usize,
     specified: &[u64],
     bits: &[u64],
-) -> Met
+) -> Space
     requires { ⌜ badSlices chains (now specified) (now bits) ≡ false ⌝ }
     requires { ⌜ length (now specified) * chains ≤ length (now table) ⌝ }
-    ensures { λ r. ⌜ Fits chains (now (table .entry)) (paired (now (specified .entry)) (now (bits .entry))) space (take (space .free) (now (vectors .entry))) r (take (r .space .free) (now (vectors .exit))) ⌝ }
+    ensures { λ r. ⌜ Narrows (allMeet chains (now (table .entry)) 0 (paired (now (specified .entry)) (now (bits .entry)))) space (take (space .free) (now (vectors .entry))) r (take (r .free) (now (vectors .exit))) ⌝ }
 {
     let mut kept = space;
     let mut slice: usize = 0;
@@ -128,50 +127,135 @@ fn fit(
             bits: bits[slice],
         };
         kept = meet_row(vectors, kept, table, chains, slice, test);
-        if !kept.some {
-            return Met {
-                space: kept,
-                slices: slice,
-            };
-        }
         slice += 1;
-    }
-    Met {
-        space: kept,
-        slices: slice,
-    }
-}
-
-// The states that the bits of a window and, where it must close, its closing stop allow. The buffer holds the unit vectors at first.
-fn allow(
-    vectors: &mut [u64],
-    cells: usize,
-    table: &[u64],
-    chains: usize,
-    stop: TestSlice,
-    closing: bool,
-    specified: &[u64],
-    bits: &[u64],
-) -> Space
-    requires { ⌜ (badSlices chains (now specified) (now bits) ≡ false) × (stop .specified < 2 ^ chains) ⌝ }
-    requires { ⌜ suc (length (now specified)) * chains ≤ length (now table) ⌝ }
-    ensures { λ r. ⌜ Narrows (allowed chains (now (table .entry)) stop closing (paired (now (specified .entry)) (now (bits .entry)))) (allStates cells) (take cells (now (vectors .entry))) r (take (r .free) (now (vectors .exit))) ⌝ }
-{
-    let all = Space {
-        lowest: 0,
-        free: cells,
-        some: true,
-    };
-    let met = fit(vectors, all, table, chains, specified, bits);
-    let kept = met.space;
-    if closing {
-        return meet_row(vectors, kept, table, chains, specified.len(), stop);
     }
     kept
 }
 
-// The lowest state that covers a window: the lowest of those that the bits and the closing stop allow that does not show the stop before.
+// The members of a space that, where a window of so many slices must close, show the stop after it.
+fn close(
+    vectors: &mut [u64],
+    space: Space,
+    table: &[u64],
+    chains: usize,
+    stop: TestSlice,
+    closing: bool,
+    slices: usize,
+) -> Space
+    requires { ⌜ stop .specified < 2 ^ chains ⌝ }
+    requires { ⌜ slices * chains + chains ≤ length (now table) ⌝ }
+    ensures { λ r. ⌜ Narrows (closed chains (now (table .entry)) stop closing slices) space (take (space .free) (now (vectors .entry))) r (take (r .free) (now (vectors .exit))) ⌝ }
+{
+    if closing {
+        return meet_row(vectors, space, table, chains, slices, stop);
+    }
+    space
+}
+
+// The lowest state that covers a window, from the states that its bits allow: the lowest of those that close it and do not show the stop before.
 fn lowest_covering(
+    settings: Settings,
+    masks: &[u64],
+    stop: TestSlice,
+    pattern: Pattern,
+    table: &[u64],
+    clauses: &[u64],
+    closing: bool,
+    specified: &[u64],
+    bits: &[u64],
+    space: Space,
+    vectors: [u64; 64],
+) -> Found
+    requires ready { ⌜ Ready settings (now masks) stop pattern (now table) (now clauses) (suc (length (now specified))) ⌝ }
+    requires slices { ⌜ badSlices (length (now masks)) (now specified) (now bits) ≡ false ⌝ }
+    requires met { ⌜ Narrows (allMeet (length (now masks)) (now table) 0 (paired (now specified) (now bits))) (allStates (settings .cells)) (unitsOf (settings .cells)) space (take (space .free) vectors) ⌝ }
+    ensures { λ r. ⌜ r ≡ foundOf (seedOf (machine settings (now (masks .entry))) stop closing (paired (now (specified .entry)) (now (bits .entry)))) ⌝ }
+{
+    let mut kept = vectors;
+    let chains = masks.len();
+    let slices = specified.len();
+    let allowed = close(&mut kept, space, table, chains, stop, closing, slices);
+    if !allowed.some {
+        return Found::Nothing;
+    }
+    search::lowest_clear(pattern, clauses, slices, allowed.lowest, kept, allowed.free)
+}
+
+// A space and its vectors, written from a place on.
+fn store(spaces: &mut [u64], place: usize, space: Space, vectors: &[u64])
+    requires { ⌜ place + 66 ≤ length (now spaces) ⌝ }
+    requires { ⌜ length (now vectors) ≡ 64 ⌝ }
+    ensures before { λ _. ⌜ ((i : ℕ) → i < place → getD (now (spaces .exit)) i 0 ≡ getD (now (spaces .entry)) i 0) ⌝ }
+    ensures space { λ _. ⌜ Holds (now (spaces .exit)) place (space .lowest) (space .free) (take (space .free) (now (vectors .entry))) ⌝ }
+{
+    let free = space.free;
+    let count = bounded::lesser(free, 64);
+    spaces[place] = space.lowest;
+    spaces[place + 1] = free as u64;
+    let first = place + 2;
+    let mut vector: usize = 0;
+    while vector < count {
+        spaces[first + vector] = vectors[vector];
+        vector += 1;
+    }
+}
+
+// The vectors of a space that was written at a place.
+fn load(spaces: &[u64], place: usize, free: usize) -> [u64; 64]
+    requires { ⌜ place + 66 ≤ length (now spaces) ⌝ }
+    ensures { λ r. ⌜ take free r ≡ heldVectors (now (spaces .entry)) place free ⌝ }
+{
+    let mut vectors = [0u64; 64];
+    let count = bounded::lesser(free, 64);
+    let first = place + 2;
+    let mut vector: usize = 0;
+    while vector < count {
+        vectors[vector] = spaces[first + vector];
+        vector += 1;
+    }
+    vectors
+}
+
+// How many slices of a part, from the first on, can be met together; for each number of them up to that and up to 256, the space of the states that meet them is written.
+fn grow(
+    cells: usize,
+    table: &[u64],
+    chains: usize,
+    specified: &[u64],
+    bits: &[u64],
+    spaces: &mut [u64],
+) -> usize
+    requires slices { ⌜ badSlices chains (now specified) (now bits) ≡ false ⌝ }
+    requires table { ⌜ length (now specified) * chains ≤ length (now table) ⌝ }
+    requires space { ⌜ (cells ≤ 64) × (length (now spaces) ≡ 16896) ⌝ }
+    ensures { λ r. ⌜ Grown chains (now (table .entry)) (paired (now (specified .entry)) (now (bits .entry))) cells (now (spaces .exit)) r ⌝ }
+{
+    let mut vectors = space::units();
+    let mut kept = Space {
+        lowest: 0,
+        free: cells,
+        some: true,
+    };
+    let mut slice: usize = 0;
+    while slice < specified.len() {
+        let test = TestSlice {
+            specified: specified[slice],
+            bits: bits[slice],
+        };
+        kept = meet_row(&mut vectors, kept, table, chains, slice, test);
+        if !kept.some {
+            return slice;
+        }
+        if slice < MOST_KEPT {
+            store(spaces, slice * 66, kept, &vectors);
+        }
+        slice += 1;
+    }
+    slice
+}
+
+// The lowest state that covers a window, its bits entered anew.
+fn found_anew(
     settings: Settings,
     masks: &[u64],
     stop: TestSlice,
@@ -187,48 +271,126 @@ fn lowest_covering(
     ensures { λ r. ⌜ r ≡ foundOf (seedOf (machine settings (now (masks .entry))) stop closing (paired (now (specified .entry)) (now (bits .entry)))) ⌝ }
 {
     let mut vectors = space::units();
-    let cells = settings.cells;
-    let chains = masks.len();
-    let allowed = allow(
-        &mut vectors,
-        cells,
-        table,
-        chains,
+    let all = Space {
+        lowest: 0,
+        free: settings.cells,
+        some: true,
+    };
+    let met = fit(&mut vectors, all, table, masks.len(), specified, bits);
+    lowest_covering(
+        settings,
+        masks,
         stop,
+        pattern,
+        table,
+        clauses,
         closing,
         specified,
         bits,
-    );
-    if !allowed.some {
-        return Found::Nothing;
-    }
-    search::lowest_clear(
-        pattern,
-        clauses,
-        specified.len(),
-        allowed.lowest,
+        met,
         vectors,
-        allowed.free,
     )
 }
 
-// How many slices of a part, from the first on, can be met together.
-fn most_met(cells: usize, table: &[u64], chains: usize, specified: &[u64], bits: &[u64]) -> usize
-    requires { ⌜ badSlices chains (now specified) (now bits) ≡ false ⌝ }
-    requires { ⌜ (cells ≤ 64) × (length (now specified) * chains ≤ length (now table)) ⌝ }
-    ensures { λ r. ⌜ Unmet chains (now (table .entry)) (paired (now (specified .entry)) (now (bits .entry))) cells r ⌝ }
+// The seed of a length: the space that its slices left is taken up where it was kept.
+fn length_seed(
+    settings: Settings,
+    masks: &[u64],
+    stop: TestSlice,
+    pattern: Pattern,
+    table: &[u64],
+    clauses: &[u64],
+    closing: bool,
+    specified: &[u64],
+    bits: &[u64],
+    spaces: &[u64],
+) -> Found
+    requires ready { ⌜ Ready settings (now masks) stop pattern (now table) (now clauses) (suc (length (now specified))) ⌝ }
+    requires slices { ⌜ badSlices (length (now masks)) (now specified) (now bits) ≡ false ⌝ }
+    requires held { ⌜ (0 < length (now specified)) × (length (now spaces) ≡ 16896) × (length (now specified) ≤ 256 → HeldAt (length (now masks)) (now table) (paired (now specified) (now bits)) (settings .cells) (now spaces) (length (now specified))) ⌝ }
+    ensures { λ r. ⌜ r ≡ foundOf (seedOf (machine settings (now (masks .entry))) stop closing (paired (now (specified .entry)) (now (bits .entry)))) ⌝ }
 {
-    let mut vectors = space::units();
-    let all = Space {
-        lowest: 0,
-        free: cells,
+    let slices = specified.len();
+    if MOST_KEPT < slices {
+        return found_anew(
+            settings,
+            masks,
+            stop,
+            pattern,
+            table,
+            clauses,
+            closing,
+            specified,
+            bits,
+        );
+    }
+    let place = (slices - 1) * 66;
+    let free = spaces[place + 1] as usize;
+    let space = Space {
+        lowest: spaces[place],
+        free,
         some: true,
     };
-    let met = fit(&mut vectors, all, table, chains, specified, bits);
-    met.slices
+    let vectors = load(spaces, place, free);
+    lowest_covering(
+        settings,
+        masks,
+        stop,
+        pattern,
+        table,
+        clauses,
+        closing,
+        specified,
+        bits,
+        space,
+        vectors,
+    )
 }
 
-// The longest window from the first slice of a part on that some state covers, and its seed: lengths are tried from the longest whose bits alone can be met down.
+// The longest of the lengths up to one that some state covers, and its seed.
+fn descend(
+    settings: Settings,
+    masks: &[u64],
+    stop: TestSlice,
+    pattern: Pattern,
+    table: &[u64],
+    clauses: &[u64],
+    closing: bool,
+    specified: &[u64],
+    bits: &[u64],
+    spaces: &[u64],
+    most: usize,
+) -> Window
+    requires ready { ⌜ Ready settings (now masks) stop pattern (now table) (now clauses) (suc (length (now specified))) ⌝ }
+    requires slices { ⌜ badSlices (length (now masks)) (now specified) (now bits) ≡ false ⌝ }
+    requires grown { ⌜ (length (now spaces) ≡ 16896) × Grown (length (now masks)) (now table) (paired (now specified) (now bits)) (settings .cells) (now spaces) most ⌝ }
+    ensures { λ r. ⌜ r ≡ reachOf (machine settings (now (masks .entry))) stop closing (paired (now (specified .entry)) (now (bits .entry))) ⌝ }
+{
+    let whole = specified.len();
+    let mut slices = most;
+    while 0 < slices {
+        let closes = closing || slices < whole;
+        let found = length_seed(
+            settings,
+            masks,
+            stop,
+            pattern,
+            table,
+            clauses,
+            closes,
+            &specified[..slices],
+            &bits[..slices],
+            spaces,
+        );
+        if let Found::State(seed) = found {
+            return Window { slices, seed };
+        }
+        slices -= 1;
+    }
+    Window { slices: 0, seed: 0 }
+}
+
+// The longest window from the first slice of a part on that some state covers, and its seed: lengths are tried from the longest whose bits alone can be met down. The equations of a slice are entered once; each length takes up the space that its slices left.
 // A window that takes the whole part closes with its stop where `closing` says so, a shorter one always.
 // An inner function: its callers show that the part is well-formed and that the tables are those of the register, the chains and the stop slice.
 pub fn reach(
@@ -246,27 +408,28 @@ pub fn reach(
     requires { ⌜ badSlices (length (now masks)) (now specified) (now bits) ≡ false ⌝ }
     ensures { λ r. ⌜ r ≡ reachOf (machine settings (now (masks .entry))) stop closing (paired (now (specified .entry)) (now (bits .entry))) ⌝ }
 {
-    let whole = specified.len();
-    let mut slices = most_met(settings.cells, table, masks.len(), specified, bits);
-    while 0 < slices {
-        let closes = closing || slices < whole;
-        let found = lowest_covering(
-            settings,
-            masks,
-            stop,
-            pattern,
-            table,
-            clauses,
-            closes,
-            &specified[..slices],
-            &bits[..slices],
-        );
-        if let Found::State(seed) = found {
-            return Window { slices, seed };
-        }
-        slices -= 1;
-    }
-    Window { slices: 0, seed: 0 }
+    let mut spaces = [0u64; KEPT_ENTRIES];
+    let most = grow(
+        settings.cells,
+        table,
+        masks.len(),
+        specified,
+        bits,
+        &mut spaces,
+    );
+    descend(
+        settings,
+        masks,
+        stop,
+        pattern,
+        table,
+        clauses,
+        closing,
+        specified,
+        bits,
+        &spaces,
+        most,
+    )
 }
 
 // What was found, as the answer for a single window: the lowest covering state, or cause 7.
@@ -296,7 +459,7 @@ fn seed_of(
     let rows = specified.len() + 1;
     table::fill(taps, masks, rows, &mut table);
     let pattern = fill_clauses(taps, masks, stop, rows, &mut clauses);
-    let found = lowest_covering(
+    let found = found_anew(
         settings,
         masks,
         stop,

@@ -1,27 +1,22 @@
 -- `window::fit` meets its contract. Assumes nothing.
+use borrow.Author.Needs.{needs}
+use native.Mathlib.Omega.{arith}
 use mathlib.Core.Path.{_≡_, refl, _∙_}
 use Prim.Native.Nat.{_-_, _≤_}
-use native.Mathlib.Omega.{arith}
 use lib.ListN.{length, take}
-use borrow.Author.Needs.{needs}
-use borrow.Author.Tests.{not-true}
 use Rattle.slices.specs.Slices.{paired}
 use Rattle.slices.proofs.Causes.{slices-equal}
 use Rattle.slices.proofs.Formed.{slices-each}
 use Rattle.search.proofs.Reading.{row-fits}
-use Rattle.window.proofs.Fitting.{Fitted, fitted-start, fitted-next, fitted-stop, fitted-end}
+use Rattle.window.proofs.Fitting.{Fitted, fitted-start, fitted-next, fitted-end}
 use Rattle.window.proofs.fit.Statement.{statement}
 use Rattle.window.proofs.fit.Tie as tie
 
 abbrev Inv-loop : tie.InvT-loop
-Inv-loop vectors₀ table chains specified bits kept₀ slice₀ vectors kept slice =
-    (slice ≤ length specified)
-    × (length vectors ≡ length vectors₀)
-    × Fitted chains table (paired specified bits) kept₀ (take (kept₀ .free) vectors₀) slice kept (take (kept .free) vectors)
+Inv-loop vectors₀ table chains specified bits kept₀ slice₀ vectors kept slice = (slice ≤ length specified) × (length vectors ≡ length vectors₀) × Fitted chains table (paired specified bits) kept₀ (take (kept₀ .free) vectors₀) slice kept (take (kept .free) vectors)
 
 abbrev μ-loop : tie.MeasureT-loop
-μ-loop vectors₀ table chains specified bits kept₀ slice₀ vectors kept slice =
-    length specified - slice
+μ-loop vectors₀ table chains specified bits kept₀ slice₀ vectors kept slice = length specified - slice
 
 loop-holds : tie.Need-loop-holds Inv-loop μ-loop
 loop-holds c =
@@ -39,9 +34,9 @@ mul-t14 c = search needs
 
 shared-slice-read-t16 : tie.Need-shared-slice-read-t16 Inv-loop μ-loop
 shared-slice-read-t16 c =
-    let i = c .before .before in
-    let a = i .before .before .before .before .before .before .args in
-    omega (arith, slices-equal (a .chains) (a .specified .now) (a .bits .now) (i .before .before .before .before .before .before .pre .0), i .loop-test .taken)
+    let s = c .before .before .before .before .before .before .before .before in
+    let a = s .args in
+    omega (arith, slices-equal (a .chains) (a .specified .now) (a .bits .now) (s .pre .0), c .before .before .loop-test .taken)
 
 meet-row-requires : tie.Need-meet-row-requires Inv-loop μ-loop
 meet-row-requires c κs =
@@ -53,21 +48,6 @@ meet-row-requires c κs =
       row-fits (l .slice) (length (a .specified .now)) (a .chains) (length (a .table .now)) (i .loop-test .taken) (s .pre .1),
     )
 
-same-length : tie.Need-same-length Inv-loop μ-loop
-same-length c = search needs
-
-returns : tie.Need-returns Inv-loop μ-loop
-returns c =
-    let i = c .before .before .before .before .before .before .before .before in
-    let s = i .before .before .before .before .before .before in
-    let a = s .args in
-    let l = i .before .loop in
-    let m = c .before .before .before .before .meet-row in
-    let us = take (a .space .free) (a .vectors .now) in
-    fitted-stop (a .chains) (a .table .now) (a .specified .now) (a .bits .now) (s .pre .0) (a .space) us (l .slice) (m .result) _ (i .loop-test .taken)
-    (fitted-next (a .chains) (a .table .now) (a .specified .now) (a .bits .now) (s .pre .0) (a .space) us (l .slice) (l .kept) _ (m .result) _ (i .loop-test .taken) (l .inv .2) (m .ensures))
-    (not-true (m .result .some) (c .if1 .taken))
-
 add-slice : tie.Need-add-slice Inv-loop μ-loop
 add-slice c = search needs
 
@@ -76,25 +56,25 @@ loop-less c = search needs
 
 loop-again : tie.Need-loop-again Inv-loop μ-loop
 loop-again c =
-    let i = c .before .before .before .before .before .before .before .before in
+    let i = c .before .before .before .before .before .before in
     let s = i .before .before .before .before .before .before in
     let a = s .args in
     let l = i .before .loop in
-    let m = c .before .before .before .before .meet-row in (
+    let m = c .before .before .meet-row in (
       omega (arith, i .loop-test .taken),
       m .kept .0 ∙ l .inv .1,
       fitted-next (a .chains) (a .table .now) (a .specified .now) (a .bits .now) (s .pre .0) (a .space) (take (a .space .free) (a .vectors .now)) (l .slice) (l .kept) _ (m .result) _ (i .loop-test .taken) (l .inv .2) (m .ensures),
     )
 
-same-length-2 : tie.Need-same-length-2 Inv-loop μ-loop
-same-length-2 c = search needs
+same-length : tie.Need-same-length Inv-loop μ-loop
+same-length c = search needs
 
-returns-2 : tie.Need-returns-2 Inv-loop μ-loop
-returns-2 c =
+returns : tie.Need-returns Inv-loop μ-loop
+returns c =
     let s = c .before .before .before .before .before .before in
     let a = s .args in
     let l = c .before .loop in
-    fitted-end (a .chains) (a .table .now) (a .specified .now) (a .bits .now) (s .pre .0) (a .space) (take (a .space .free) (a .vectors .now)) (l .slice) (l .kept) _ (l .inv .0) (omega arith) (l .inv .2)
+    fitted-end (a .chains) (a .table .now) (a .specified .now) (a .bits .now) (s .pre .0) (a .space) (take (a .space .free) (a .vectors .now)) (l .slice) (l .kept) _ (omega arith) (l .inv .2)
 
 pub fit-spec : {M : Type 1} → statement M
 fit-spec =
@@ -108,10 +88,8 @@ fit-spec =
     mul-t14
     shared-slice-read-t16
     meet-row-requires
-    same-length
-    returns
     add-slice
     loop-less
     loop-again
-    same-length-2
-    returns-2)
+    same-length
+    returns)

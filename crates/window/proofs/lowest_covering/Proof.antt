@@ -5,46 +5,47 @@ use native.Mathlib.Omega.{arith}
 use native.Mathlib.Nat.{suc-mul}
 use lib.ListN.{length, take}
 use borrow.Author.Tests.{not-true, not-false}
-use borrow.Author.Needs.{needs}
 use Rattle.slices.specs.Slices.{paired}
 use Rattle.slices.proofs.Formed.{slice-formed, stop-slice, slices-length, slices-all}
 use Rattle.table.specs.Chosen.{chosen}
 use Rattle.search.specs.Search.{foundOf, lowestClear}
 use Rattle.search.specs.declared.Pattern.{Pattern}
-use Rattle.window.specs.Code.{allowed, allStates, Narrows}
-use Rattle.window.proofs.Seeds.{unitsOf, states-rising, seed-none, seed-lowest}
+use Rattle.search.proofs.Reading.{row-fits}
+use Rattle.window.specs.Code.{allStates, unitsOf}
+use Rattle.window.proofs.Fitting.{allowed-closed}
+use Rattle.window.proofs.Seeds.{states-rising, seed-none, seed-lowest}
 use Rattle.register.proofs.Causes.{cells-within}
+use borrow.Author.Needs.{needs}
 use Rattle.window.proofs.lowest_covering.Statement.{statement}
 use Rattle.window.proofs.lowest_covering.Tie as tie
 
-units-requires : tie.Need-units-requires
-units-requires c κs = search needs
+slice-aggregate-close : tie.Need-slice-aggregate-close
+slice-aggregate-close c = search needs
 
-slice-aggregate-allow : tie.Need-slice-aggregate-allow
-slice-aggregate-allow c = search needs
-
-allow-requires : tie.Need-allow-requires
-allow-requires c κs =
-    let s = c .before .before .before .before .before .before .before in
-    ((s .pre .1, slice-formed (length (s .args .masks .now)) (s .args .stop) (stop-slice (length (s .args .masks .now)) (s .args .stop) (s .pre .0 .stop)) .among), s .pre .0 .table .long)
+close-requires : tie.Need-close-requires
+close-requires c κs =
+    let s = c .before .before .before .before .before .before in
+    let a = s .args in
+    (slice-formed (length (a .masks .now)) (a .stop) (stop-slice (length (a .masks .now)) (a .stop) (s .pre .0 .stop)) .among, row-fits (length (a .specified .now)) (suc (length (a .specified .now))) (length (a .masks .now)) (length (a .table .now)) (omega arith) (s .pre .0 .table .long))
 
 returns : tie.Need-returns
 returns c =
-    let s = c .before .before .before .before .before .before .before .before .before .before .before in
+    let s = c .before .before .before .before .before .before .before .before .before .before in
     let a = s .args in
-    let o = c .before .before .before .allow in
+    let o = c .before .before .before .close in
     let w = paired (a .specified .now) (a .bits .now) in
-    let n = slices-length (length (a .masks .now)) (a .specified .now) (a .bits .now) (s .pre .1) in
-    let k : Narrows (allowed (length (a .masks .now)) (a .table .now) (a .stop) (a .closing) w) (allStates (a .settings .cells)) (unitsOf (a .settings .cells)) (o .result) (take (o .result .free) (o .last .0)) = rw (c .before .before .before .before .before .units .ensures) at (o .ensures) in
-    sym (ap foundOf (seed-none (a .settings) (a .masks .now) (a .stop) (a .pattern) (a .table .now) (a .clauses .now) (suc (length (a .specified .now))) w (s .pre .0) (omega arith) (slices-all (length (a .masks .now)) (a .specified .now) (a .bits .now) (s .pre .1)) (a .closing) (o .result) (take (o .result .free) (o .last .0)) k (not-true (o .result .some) (c .if1 .taken))))
+    let n = slices-length (length (a .masks .now)) (a .specified .now) (a .bits .now) (s .pre .1 .0) in
+    let k = allowed-closed (length (a .masks .now)) (a .table .now) (a .stop) w (allStates (a .settings .cells)) (unitsOf (a .settings .cells)) (a .space) (take (a .space .free) (a .vectors)) (o .result) (take (o .result .free) (o .last .0)) (a .closing) (length (a .specified .now)) n (s .pre .1 .1) (o .ensures) in
+    sym (ap foundOf (seed-none (a .settings) (a .masks .now) (a .stop) (a .pattern) (a .table .now) (a .clauses .now) (suc (length (a .specified .now))) w (s .pre .0) (omega arith) (slices-all (length (a .masks .now)) (a .specified .now) (a .bits .now) (s .pre .1 .0)) (a .closing) (o .result) (take (o .result .free) (o .last .0)) k (not-true (o .result .some) (c .if1 .taken))))
 
 lowest-clear-requires : tie.Need-lowest-clear-requires
 lowest-clear-requires c κs =
-    let s = c .before .before .before .before .before .before .before .before .before .before .before in
+    let s = c .before .before .before .before .before .before .before .before .before .before in
     let a = s .args in
-    let o = c .before .before .before .allow in
+    let o = c .before .before .before .close in
     let w = paired (a .specified .now) (a .bits .now) in
-    let k : Narrows (allowed (length (a .masks .now)) (a .table .now) (a .stop) (a .closing) w) (allStates (a .settings .cells)) (unitsOf (a .settings .cells)) (o .result) (take (o .result .free) (o .last .0)) = rw (c .before .before .before .before .before .units .ensures) at (o .ensures) in
+    let n = slices-length (length (a .masks .now)) (a .specified .now) (a .bits .now) (s .pre .1 .0) in
+    let k = allowed-closed (length (a .masks .now)) (a .table .now) (a .stop) w (allStates (a .settings .cells)) (unitsOf (a .settings .cells)) (a .space) (take (a .space .free) (a .vectors)) (o .result) (take (o .result .free) (o .last .0)) (a .closing) (length (a .specified .now)) n (s .pre .1 .1) (o .ensures) in
     let e = ap (λ (p : Pattern). p .columns) (s .pre .0 .pattern) in (
       k .rising (states-rising (a .settings .cells) (cells-within (a .settings .cells) (a .settings .taps) (s .pre .0 .register) .1)) (not-false (o .result .some) (c .if1 .left)),
       rw e (omega (arith, suc-mul (length (a .specified .now)) (length (chosen (a .stop .specified) (a .masks .now))), s .pre .0 .clauses .long)),
@@ -52,23 +53,17 @@ lowest-clear-requires c κs =
 
 returns-2 : tie.Need-returns-2
 returns-2 c =
-    let s = c .before .before .before .before .before .before .before .before .before .before .before .before in
+    let s = c .before .before .before .before .before .before .before .before .before .before .before in
     let a = s .args in
-    let o = c .before .before .before .before .allow in
+    let o = c .before .before .before .before .close in
     let w = paired (a .specified .now) (a .bits .now) in
-    let n = slices-length (length (a .masks .now)) (a .specified .now) (a .bits .now) (s .pre .1) in
-    let k : Narrows (allowed (length (a .masks .now)) (a .table .now) (a .stop) (a .closing) w) (allStates (a .settings .cells)) (unitsOf (a .settings .cells)) (o .result) (take (o .result .free) (o .last .0)) = rw (c .before .before .before .before .before .before .units .ensures) at (o .ensures) in
+    let n = slices-length (length (a .masks .now)) (a .specified .now) (a .bits .now) (s .pre .1 .0) in
+    let k = allowed-closed (length (a .masks .now)) (a .table .now) (a .stop) w (allStates (a .settings .cells)) (unitsOf (a .settings .cells)) (a .space) (take (a .space .free) (a .vectors)) (o .result) (take (o .result .free) (o .last .0)) (a .closing) (length (a .specified .now)) n (s .pre .1 .1) (o .ensures) in
     c .lowest-clear .ensures
     ∙ ap (λ (m : ℕ). lowestClear (a .pattern) (a .clauses .now) m (o .result .lowest) (take (o .result .free) (o .last .0))) (sym n)
-    ∙ seed-lowest (a .settings) (a .masks .now) (a .stop) (a .pattern) (a .table .now) (a .clauses .now) (suc (length (a .specified .now))) w (s .pre .0) (omega arith) (slices-all (length (a .masks .now)) (a .specified .now) (a .bits .now) (s .pre .1)) (a .closing) (o .result) (take (o .result .free) (o .last .0)) k (not-false (o .result .some) (c .before .if1 .left))
+    ∙ seed-lowest (a .settings) (a .masks .now) (a .stop) (a .pattern) (a .table .now) (a .clauses .now) (suc (length (a .specified .now))) w (s .pre .0) (omega arith) (slices-all (length (a .masks .now)) (a .specified .now) (a .bits .now) (s .pre .1 .0)) (a .closing) (o .result) (take (o .result .free) (o .last .0)) k (not-false (o .result .some) (c .before .if1 .left))
 
 pub lowest-covering-spec : {M : Type 1} → statement M
 lowest-covering-spec =
     tie.close
-    (tie.spec
-    units-requires
-    slice-aggregate-allow
-    allow-requires
-    returns
-    lowest-clear-requires
-    returns-2)
+    (tie.spec slice-aggregate-close close-requires returns lowest-clear-requires returns-2)

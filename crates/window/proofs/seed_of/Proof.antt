@@ -34,14 +34,14 @@ fill-clauses-requires c κs =
     let w = window-formed (a .settings) (a .masks .now) (a .stop) (a .specified .now) (a .bits .now) (s .pre .0) in
     (w .few, table-room (length (a .specified .now) + 1) (length (a .masks .now)) (omega (arith, window-within (a .settings .limit) (length (a .specified .now)) (w .lengths) .1, s .pre .1)) (w .few))
 
-slice-aggregate-lowest-covering : tie.Need-slice-aggregate-lowest-covering
-slice-aggregate-lowest-covering c = search needs
+slice-aggregate-found-anew : tie.Need-slice-aggregate-found-anew
+slice-aggregate-found-anew c = search needs
 
-slice-aggregate-lowest-covering-2 : tie.Need-slice-aggregate-lowest-covering-2
-slice-aggregate-lowest-covering-2 c = search needs
+slice-aggregate-found-anew-2 : tie.Need-slice-aggregate-found-anew-2
+slice-aggregate-found-anew-2 c = search needs
 
-lowest-covering-requires : tie.Need-lowest-covering-requires
-lowest-covering-requires c κs =
+found-anew-requires : tie.Need-found-anew-requires
+found-anew-requires c κs =
     let s = c .before .before .before .before .before .before .before .before .before .before .before in
     let a = s .args in
     let w = window-formed (a .settings) (a .masks .now) (a .stop) (a .specified .now) (a .bits .now) (s .pre .0) in
@@ -55,7 +55,7 @@ answer-requires : tie.Need-answer-requires
 answer-requires c κs = search needs
 
 returns : tie.Need-returns
-returns c = c .answer .ensures _ (c .before .lowest-covering .ensures)
+returns c = c .answer .ensures _ (c .before .found-anew .ensures)
 
 pub seed-of-spec : {M : Type 1} → statement M
 seed-of-spec =
@@ -66,8 +66,8 @@ seed-of-spec =
     fill-requires
     slice-aggregate-fill-clauses
     fill-clauses-requires
-    slice-aggregate-lowest-covering
-    slice-aggregate-lowest-covering-2
-    lowest-covering-requires
+    slice-aggregate-found-anew
+    slice-aggregate-found-anew-2
+    found-anew-requires
     answer-requires
     returns)

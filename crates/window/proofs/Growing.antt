@@ -1,0 +1,189 @@
+-- The spaces of the states that meet the first slices of a part, as the loop writes them.
+--     held-same          entries that are written later leave a space as it was
+--     held-new           a space that is written
+--     Growing            what the loop keeps: the states that meet the slices so far, and the spaces that are written
+--     growing-start, growing-next, growing-beyond     at the start, after a slice whose space is written, and after one whose space is not
+--     grown-stop, grown-end     where nothing is left, and at the end
+--     held-part, held-whole     a space as that of a part, and with its vectors
+--     storing-start, storing-next, storing-before, storing-end     of a loop that writes the vectors of a space
+--     loading-next, loading-end     of a loop that reads them
+-- Assumes nothing.
+use mathlib.Core.Path.{_≡_, refl, sym, ap, ap₂, _∙_, subst}
+use mathlib.Core.Logic.{⊎-elim}
+use mathlib.Core.Bool.{Bool, true, false}
+use mathlib.Core.List.{List}
+use Prim.Native.Nat.{ℕ, suc, _+_, _-_, _*_, _^_, _≤_, _<_, min}
+use native.Mathlib.Omega.{arith}
+use lib.ListN.{getD, length, take, drop, set, length-drop, length-set, length-take}
+use lib.Seq.{ext-getD, length-take-le, take-all, take-take, getD-drop, getD-take, getD-set-same, getD-set-other}
+use borrow.Author.Count.{below-more}
+use Rattle.bounded.proofs.Tests.{eq-or-not}
+use Rattle.space.specs.declared.Space.{Space}
+use Rattle.slices.specs.declared.TestSlice.{TestSlice}
+use Rattle.slices.specs.Slices.{paired, badSlices}
+use Rattle.slices.proofs.Formed.{slices-length, paired-take}
+use Rattle.window.specs.Code.{allMeet, allStates, unitsOf, Narrows, heldVectors, Holds, HeldAt, Grown}
+use Rattle.window.proofs.Fitting.{Fitted, fitted-start, fitted-none}
+use Rattle.window.proofs.Seeds.{states-complete}
+
+-- the vectors of a space lie before the place a
+held-vectors : (old new : List ℕ) (a b f : ℕ) → b + 66 ≤ a → length new ≡ length old → ((i : ℕ) → i < a → getD new i 0 ≡ getD old i 0) → heldVectors new b f ≡ heldVectors old b f
+unfolding heldVectors
+held-vectors old new a b f h l e = ap (take f) (ext-getD 0 (take 64 (drop (b + 2) new)) (take 64 (drop (b + 2) old))
+    (length-take 64 (drop (b + 2) new) ∙ rw (length-drop (b + 2) new, l, sym (length-drop (b + 2) old)) (sym (length-take 64 (drop (b + 2) old))))
+    (λ i k.
+    let w : i < 64 = omega (arith, length-take 64 (drop (b + 2) new)) in
+    getD-take 64 (drop (b + 2) new) i 0 w ∙ getD-drop (b + 2) new i 0 ∙ e (b + 2 + i) (omega arith) ∙ sym (getD-take 64 (drop (b + 2) old) i 0 w ∙ getD-drop (b + 2) old i 0)))
+
+module _ (c : ℕ) (table : List ℕ) (w : List TestSlice) (cells : ℕ) where
+  abbrev At : ℕ → ℕ → ℕ → List ℕ → Type 0
+  At k x f vs = Narrows (allMeet c table 0 (take k w)) (allStates cells) (unitsOf cells) (record { lowest = x; free = f; some = true }) vs
+
+  pub held-same : (old new : List ℕ) (a k : ℕ) → (k - 1) * 66 + 66 ≤ a → length new ≡ length old → ((i : ℕ) → i < a → getD new i 0 ≡ getD old i 0)
+      → HeldAt c table w cells old k → HeldAt c table w cells new k
+  held-same old new a k h l e n =
+      let b : ℕ = (k - 1) * 66 in
+      let x : getD old b 0 ≡ getD new b 0 = sym (e b (omega arith)) in
+      let f : getD old (b + 1) 0 ≡ getD new (b + 1) 0 = sym (e (b + 1) (omega arith)) in
+      let v : heldVectors old b (getD old (b + 1) 0) ≡ heldVectors new b (getD new (b + 1) 0) =
+      sym (held-vectors old new a b (getD old (b + 1) 0) h l e) ∙ ap (heldVectors new b) f in
+      subst (λ (q : ℕ). At k q (getD new (b + 1) 0) (heldVectors new b (getD new (b + 1) 0))) x
+      (subst (λ (q : ℕ). At k (getD old b 0) q (heldVectors new b (getD new (b + 1) 0))) f
+      (subst (λ (us : List ℕ). At k (getD old b 0) (getD old (b + 1) 0) us) v n))
+
+  pub held-new : (new : List ℕ) (k : ℕ) (y : Space) (vs : List ℕ) → Holds new ((k - 1) * 66) (y .lowest) (y .free) vs → y .some ≡ true → Fitted c table w (allStates cells) (unitsOf cells) k y vs
+      → HeldAt c table w cells new k
+  held-new new k y vs h e n =
+      let b : ℕ = (k - 1) * 66 in
+      let m : At k (y .lowest) (y .free) vs = subst (λ (t : Bool). Narrows (allMeet c table 0 (take k w)) (allStates cells) (unitsOf cells) (record { lowest = y .lowest; free = y .free; some = t }) vs) e n in
+      subst (λ (q : ℕ). At k q (getD new (b + 1) 0) (heldVectors new b (getD new (b + 1) 0))) (sym (h .lowest))
+      (subst (λ (q : ℕ). At k (y .lowest) q (heldVectors new b q)) (sym (h .free))
+      (subst (λ (us : List ℕ). At k (y .lowest) (y .free) us) (sym (h .vectors)) m))
+
+  pub record Growing (k : ℕ) (y : Space) (vs spaces : List ℕ) : Type 0 where
+    pub long : length spaces ≡ 16896
+    pub some : y .some ≡ true
+    pub fitted : Fitted c table w (allStates cells) (unitsOf cells) k y vs
+    pub held : (j : ℕ) → 0 < j → j ≤ k → j ≤ 256 → HeldAt c table w cells spaces j
+
+  pub growing-start : (spaces : List ℕ) → length spaces ≡ 16896 → Growing 0 (allStates cells) (unitsOf cells) spaces
+  growing-start spaces l = record {
+    long = l;
+    some = refl;
+    fitted = fitted-start c table w (allStates cells) (unitsOf cells);
+    held = λ j h b. absurd (omega arith);
+  }
+
+  module _ (k : ℕ) (y : Space) (vs spaces : List ℕ) (g : Growing k y vs spaces) (z : Space) (ws : List ℕ) (f : Fitted c table w (allStates cells) (unitsOf cells) (k + 1) z ws) (e : z .some ≡ true) where
+    pub growing-next : (new : List ℕ) → length new ≡ length spaces → ((i : ℕ) → i < k * 66 → getD new i 0 ≡ getD spaces i 0) → Holds new (k * 66) (z .lowest) (z .free) ws → Growing (k + 1) z ws new
+    growing-next new l s h = record {
+      long = l ∙ g .long;
+      some = e;
+      fitted = f;
+      held = λ j p b t. ⊎-elim
+          (λ q. subst (HeldAt c table w cells new) (sym q) (held-new new (k + 1) z ws (let u : k * 66 ≡ (k + 1 - 1) * 66 = omega arith in subst (λ (a : ℕ). Holds new a (z .lowest) (z .free) ws) u h) e f))
+          (λ ne. held-same spaces new (k * 66) j (omega arith) l s (g .held j p (omega arith) t))
+          (eq-or-not j (k + 1));
+    }
+
+    pub growing-beyond : 256 ≤ k → Growing (k + 1) z ws spaces
+    growing-beyond h = record { long = g .long; some = e; fitted = f; held = λ j p b t. g .held j p (omega arith) t }
+
+module _ (c : ℕ) (table : List ℕ) (ps bs : List ℕ) (b : badSlices c ps bs ≡ false) (cells : ℕ) (few : cells ≤ 64) where
+  abbrev w : List TestSlice
+  w = paired ps bs
+
+  pub grown-stop : (k : ℕ) (y : Space) (vs spaces : List ℕ) (z : Space) (ws : List ℕ) → k < length ps → Growing c table w cells k y vs spaces
+      → Fitted c table w (allStates cells) (unitsOf cells) (k + 1) z ws → z .some ≡ false → Grown c table w cells spaces k
+  grown-stop k y vs spaces z ws h g f e = record {
+    within = omega (arith, slices-length c ps bs b);
+    held = g .held;
+    more = λ j s l m u. fitted-none c table ps bs b (allStates cells) (unitsOf cells) (k + 1) z ws f e j s (omega arith) (states-complete cells few s u);
+  }
+
+  pub grown-end : (k : ℕ) (y : Space) (vs spaces : List ℕ) → k ≤ length ps → length ps ≤ k → Growing c table w cells k y vs spaces → Grown c table w cells spaces k
+  grown-end k y vs spaces h l g = record {
+    within = omega (arith, slices-length c ps bs b);
+    held = g .held;
+    more = λ j s m n u. absurd (omega (arith, slices-length c ps bs b));
+  }
+
+-- a space is that of the slices cut off at its number
+pub held-part : (c : ℕ) (table ps bs : List ℕ) (cells : ℕ) (spaces : List ℕ) (k : ℕ) → k ≤ length ps → HeldAt c table (paired ps bs) cells spaces k
+    → HeldAt c table (paired (take k ps) (take k bs)) cells spaces (length (take k ps))
+held-part c table ps bs cells spaces k h a =
+    let n : length (take k ps) ≡ k = length-take-le k ps h in
+    let e : take k (paired (take k ps) (take k bs)) ≡ take k (paired ps bs) = ap (take k) (paired-take k ps bs) ∙ take-take k k (paired ps bs) (omega arith) in
+    subst (λ (j : ℕ). HeldAt c table (paired (take k ps) (take k bs)) cells spaces j) (sym n)
+    (subst (λ (l : List TestSlice). Narrows (allMeet c table 0 l) (allStates cells) (unitsOf cells) (record { lowest = getD spaces ((k - 1) * 66) 0; free = getD spaces ((k - 1) * 66 + 1) 0; some = true }) (heldVectors spaces ((k - 1) * 66) (getD spaces ((k - 1) * 66 + 1) 0))) (sym e) a)
+
+-- a space of all slices, with its vectors
+pub held-whole : (c : ℕ) (table ps bs : List ℕ) (b : badSlices c ps bs ≡ false) (cells : ℕ) (spaces vs : List ℕ) → HeldAt c table (paired ps bs) cells spaces (length ps)
+    → take (getD spaces ((length ps - 1) * 66 + 1) 0) vs ≡ heldVectors spaces ((length ps - 1) * 66) (getD spaces ((length ps - 1) * 66 + 1) 0)
+    → Narrows (allMeet c table 0 (paired ps bs)) (allStates cells) (unitsOf cells) (record { lowest = getD spaces ((length ps - 1) * 66) 0; free = getD spaces ((length ps - 1) * 66 + 1) 0; some = true }) (take (getD spaces ((length ps - 1) * 66 + 1) 0) vs)
+held-whole c table ps bs b cells spaces vs a e =
+    let w : take (length ps) (paired ps bs) ≡ paired ps bs = take-all (length ps) (paired ps bs) (omega (arith, slices-length c ps bs b)) in
+    rw e (subst (λ (l : List TestSlice). Narrows (allMeet c table 0 l) (allStates cells) (unitsOf cells) (record { lowest = getD spaces ((length ps - 1) * 66) 0; free = getD spaces ((length ps - 1) * 66 + 1) 0; some = true }) (heldVectors spaces ((length ps - 1) * 66) (getD spaces ((length ps - 1) * 66 + 1) 0))) w a)
+
+-- ---- a loop that writes the vectors of a space
+
+module _ (old : List ℕ) (a : ℕ) (vs : List ℕ) where
+  pub record Storing (new : List ℕ) (n : ℕ) : Type 0 where
+    pub long : length new ≡ length old
+    pub before : (i : ℕ) → i < a + 2 → getD new i 0 ≡ getD old i 0
+    pub vectors : (i : ℕ) → i < n → getD new (a + 2 + i) 0 ≡ getD vs i 0
+
+  pub storing-start : Storing old 0
+  storing-start = record { long = refl; before = λ i l. refl; vectors = λ i l. absurd (omega arith) }
+
+  pub storing-next : (new : List ℕ) (n : ℕ) → n < 64 → a + 66 ≤ length old → Storing new n → Storing (set new (a + 2 + n) (getD vs n 0)) (n + 1)
+  storing-next new n l h s = record {
+    long = simp length-set (s .long);
+    before = λ i b. getD-set-other new (a + 2 + n) i (getD vs n 0) 0 (λ e. omega arith) ∙ s .before i b;
+    vectors = λ i b. ⊎-elim
+        (λ e. subst (λ (k : ℕ). getD (set new (a + 2 + n) (getD vs n 0)) (a + 2 + k) 0 ≡ getD vs k 0) (sym e) (getD-set-same new (a + 2 + n) (getD vs n 0) 0 (omega (arith, s .long))))
+        (λ ne. getD-set-other new (a + 2 + n) (a + 2 + i) (getD vs n 0) 0 (λ e. ne (let q : i ≡ n = omega arith in q)) ∙ s .vectors i (omega arith))
+        (eq-or-not i n);
+  }
+
+-- the lowest member and the number of vectors were written first
+module _ (old : List ℕ) (a x f : ℕ) (vs new : List ℕ) (n : ℕ) (room : a + 66 ≤ length old) (s : Storing (set (set old a x) (a + 1) f) a vs new n) where
+  pub storing-before : (i : ℕ) → i < a → getD new i 0 ≡ getD old i 0
+  storing-before i l = s .before i (omega arith) ∙ getD-set-other (set old a x) (a + 1) i f 0 (λ e. omega arith) ∙ getD-set-other old a i x 0 (λ e. omega arith)
+
+  long : length new ≡ length old
+  long = s .long ∙ simp length-set
+
+  pub storing-end : min f 64 ≤ n → length vs ≡ 64 → Holds new a x f (take f vs)
+  unfolding heldVectors
+  storing-end h l = record {
+    lowest = s .before a (omega arith) ∙ getD-set-other (set old a x) (a + 1) a f 0 (λ e. omega arith) ∙ getD-set-same old a x 0 (omega arith);
+    free = s .before (a + 1) (omega arith) ∙ getD-set-same (set old a x) (a + 1) f 0 (simp length-set (omega arith));
+    vectors = ext-getD 0 (take f (take 64 (drop (a + 2) new))) (take f vs)
+        (omega (arith, length-take f (take 64 (drop (a + 2) new)), length-take 64 (drop (a + 2) new), length-drop (a + 2) new, length-take f vs, long))
+        (λ i k.
+        let u : i < f = omega (arith, length-take f (take 64 (drop (a + 2) new))) in
+        let v : i < 64 = omega (arith, length-take f (take 64 (drop (a + 2) new)), length-take 64 (drop (a + 2) new)) in
+        getD-take f (take 64 (drop (a + 2) new)) i 0 u ∙ getD-take 64 (drop (a + 2) new) i 0 v ∙ getD-drop (a + 2) new i 0 ∙ s .vectors i (omega arith) ∙ sym (getD-take f vs i 0 u));
+  }
+
+-- ---- a loop that reads them
+
+module _ (spaces : List ℕ) (a : ℕ) where
+  abbrev pub Loading : List ℕ → ℕ → Type 0
+  Loading vs n = (i : ℕ) → i < n → getD vs i 0 ≡ getD spaces (a + 2 + i) 0
+
+  pub loading-next : (vs : List ℕ) (n : ℕ) → n < length vs → Loading vs n → Loading (set vs n (getD spaces (a + 2 + n) 0)) (n + 1)
+  loading-next vs n l s i b = ⊎-elim
+      (λ e. subst (λ (k : ℕ). getD (set vs n (getD spaces (a + 2 + n) 0)) k 0 ≡ getD spaces (a + 2 + k) 0) (sym e) (getD-set-same vs n (getD spaces (a + 2 + n) 0) 0 l))
+      (λ ne. getD-set-other vs n i (getD spaces (a + 2 + n) 0) 0 ne ∙ s i (omega arith))
+      (eq-or-not i n)
+
+  pub loading-end : (vs : List ℕ) (f n : ℕ) → min f 64 ≤ n → length vs ≡ 64 → a + 66 ≤ length spaces → Loading vs n → take f vs ≡ heldVectors spaces a f
+  unfolding heldVectors
+  loading-end vs f n h l r s = ext-getD 0 (take f vs) (take f (take 64 (drop (a + 2) spaces)))
+      (omega (arith, length-take f (take 64 (drop (a + 2) spaces)), length-take 64 (drop (a + 2) spaces), length-drop (a + 2) spaces, length-take f vs))
+      (λ i k.
+      let u : i < f = omega (arith, length-take f vs) in
+      let v : i < 64 = omega (arith, length-take f vs) in
+      getD-take f vs i 0 u ∙ s i (omega arith) ∙ sym (getD-take f (take 64 (drop (a + 2) spaces)) i 0 u ∙ getD-take 64 (drop (a + 2) spaces) i 0 v ∙ getD-drop (a + 2) spaces i 0))
