@@ -29,13 +29,13 @@ use Rattle.space.specs.Space.{among, pivot, without, Rising}
 use Rattle.space.proofs.Members.{Among, among-is, is-among, among-lowest, lowest-among}
 use Rattle.space.proofs.Pivot.{no-pivot, kept-alike, alike-kept, pivot-moves, pivot-parity, without-same, without-shorter, rising-kept, rising-moved}
 use Rattle.search.specs.Clauses.{row, reads, shown, clear}
-use Rattle.search.specs.Code.{Below, Kept, firstShown, lower, reached}
+use Rattle.search.specs.Code.{firstShown, lower, reached}
 use Rattle.search.specs.Search.{lowestClear}
 use Rattle.search.specs.declared.Found.{Found}
 use Rattle.search.specs.declared.Found.the-variants.{State, Nothing}
 use Rattle.search.specs.declared.Pattern.{Pattern}
 use Rattle.search.proofs.Reading.{row-fits, row-length, row-at, reads-alike, clear-at, none-clear}
-use Rattle.search.proofs.Finding.{Reached, Finds, reached-on, kept-on, finds-is, is-finds}
+use Rattle.search.proofs.Finding.{Below, Kept, Reached, Finds, reached-on, kept-on, finds-is, is-finds}
 
 module _ (p : Pattern) (table : List ℕ) (m : ℕ) where
   -- ---- the first row in which x shows the pattern

@@ -1,5 +1,7 @@
 -- What a search finds.
 --     state-some, nothing-none     a state was found, or nothing
+--     Below found s        s is lower than what was found
+--     Kept Passes a r      r is a, or a passing state of 64 bits below it
 --     Reached found s      what was found is s or lower
 --     Finds Passes a r     r is a or a passing state below it, and every passing state is reached by r
 --     kept-on, reached-on  one search after another
@@ -20,7 +22,7 @@ use Rattle.bounded.specs.Bounded.{leastBelow}
 use Rattle.bounded.proofs.Search.{LeastIs, least-is}
 use Rattle.bounded.proofs.Tests.{clash, lt-or-le}
 use Rattle.search.specs.Search.{foundOf}
-use Rattle.search.specs.Code.{Below, Kept, lower, reached}
+use Rattle.search.specs.Code.{lower, reached}
 use Rattle.search.specs.declared.Found.{Found}
 use Rattle.search.specs.declared.Found.the-variants.{State, Nothing}
 
@@ -31,6 +33,13 @@ state-some (some t) s e = ap some (let q : t ≡ s = cc in q)
 pub nothing-none : (o : Option ℕ) → foundOf o ≡ Nothing → o ≡ none
 nothing-none none e = refl
 nothing-none (some t) e = absurd (let z : _≡_ {A = ℕ} 0 1 = cc in omega arith)
+
+abbrev pub Below : Found → ℕ → Type 0
+Below (State b) s = s < b
+Below Nothing s = Unit {0}
+
+abbrev pub Kept : (ℕ → Type 0) → Found → Found → Type 0
+Kept Passes a r = (r ≡ a) ⊎ ((s : ℕ) × (r ≡ State s) × (s < 2 ^ 64) × Passes s × Below a s)
 
 abbrev pub Reached : Found → ℕ → Type 0
 Reached (State b) s = b ≤ s

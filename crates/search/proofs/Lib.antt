@@ -4,5 +4,4 @@ pub mod Reading
 pub mod Finding
 pub mod Branching
 pub mod Rising
-pub mod Varying
 pub mod Sifting

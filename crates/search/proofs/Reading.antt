@@ -2,7 +2,7 @@
 --     row-at, row-length     a mask of a row, and how many there are
 --     reads-alike            two states with the same parities under each mask read alike
 --     reads-next, reads-differs, reads-end     of a loop that goes up through a row: what is left decides
---     clear-at, none-clear   a clear state shows the pattern in none of the rows
+--     clear-at, none-clear, clear-front   a clear state shows the pattern in none of the rows, nor in the first of them
 --     row-fits               a row below the bound stands in the table
 -- Assumes nothing.
 use mathlib.Core.Path.{_≡_, refl, ap, _∙_}
@@ -73,3 +73,6 @@ module _ (p : Pattern) (table : List ℕ) (s : ℕ) where
   none-clear zero n = refl
   none-clear (suc m) n =
       and-yes (clear p table m s) (not (shown p table m s)) (none-clear m (λ t h. n t (omega arith))) (ap not (n m (omega arith)))
+
+  pub clear-front : (m t : ℕ) → t ≤ m → clear p table m s ≡ true → clear p table t s ≡ true
+  clear-front m t h c = none-clear t (λ u l. clear-at m u c (omega arith))

@@ -16,7 +16,7 @@ use Rattle.space.specs.Space.{pick, Rising}
 use Rattle.space.proofs.Members.{Among}
 use Rattle.space.proofs.Blocks.{block-within, front-within, front-split}
 use Rattle.space.proofs.Numbers.{pick-among, pick-front, pick-rises, among-pick}
-use Rattle.search.specs.Code.{Kept, lower}
+use Rattle.search.specs.Code.{lower}
 use Rattle.search.specs.Search.{lowestClear}
 use Rattle.search.specs.declared.Found.{Found}
 use Rattle.search.specs.declared.Found.the-variants.{State, Nothing}

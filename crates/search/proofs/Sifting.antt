@@ -35,7 +35,7 @@ use Rattle.space.proofs.Numbers.{pick-split, pick-among, among-pick, pick-rises
 use Rattle.lanes.specs.Lanes.{readings}
 use Rattle.lanes.proofs.Lanes.{reading-lane, all-lanes}
 use Rattle.search.specs.Clauses.{row, reads, shown, clear}
-use Rattle.search.specs.Code.{Below, Kept, lower}
+use Rattle.search.specs.Code.{lower}
 use Rattle.search.specs.Search.{lowestClear}
 use Rattle.search.specs.Leaf.{LeafSized, Reads, Matched, AllMatched, RowFilled, Filled, Kills, FirstClear}
 use Rattle.search.specs.declared.Found.{Found}

@@ -2,14 +2,14 @@
 ghost use mathlib.Core.Path.{_≡_};
 ghost use Prim.Native.Nat.{ℕ, _+_, _*_, _≤_, _<_};
 ghost use lib.ListN.{getD, length, take};
-ghost use mathlib.Core.Bool.{true, false, _&&_};
+ghost use mathlib.Core.Bool.{true, false};
 ghost use Rattle.gf2.specs.Words.{digit};
-ghost use Rattle.space.specs.Space.{among, pick, Rising};
-ghost use Rattle.search.specs.Clauses.{clear, row as rowOf, shown as shownOf};
+ghost use Rattle.space.specs.Space.{pick, Rising};
+ghost use Rattle.search.specs.Clauses.{clear, shown as shownOf};
 ghost use Rattle.search.specs.Search.{lowestClear};
-ghost use Rattle.search.specs.Code.{firstShown, Kept, lower, reached as reachedOf, varies as variesOf};
+ghost use Rattle.search.specs.Code.{firstShown, lower, reached as reachedOf};
 ghost use Rattle.search.specs.Leaf.{AllMatched, Filled, FirstClear, Kills, LeafSized, Matched, Reads, RowFilled};
-ghost use Rattle.search.specs.declared.Found.the-variants.{Nothing, State};
+ghost use Rattle.search.specs.declared.Found.the-variants.{State};
 
 // How many of the last vectors are left to the search of the whole space.
 const LAST_VECTORS: usize = 6;
@@ -53,47 +53,6 @@ fn shown(pattern: Pattern, table: &[u64], row: usize, state: u64) -> bool
         column += 1;
     }
     true
-}
-
-// Whether some member reads a row otherwise than another: a vector is odd under one of its masks.
-fn varies(pattern: Pattern, table: &[u64], row: usize, vectors: &[u64], free: usize) -> bool
-    requires { ⌜ row * pattern .columns + pattern .columns ≤ length (now table) ⌝ }
-    ensures { λ r. ⌜ r ≡ variesOf (rowOf (pattern .columns) (now (table .entry)) row) (take free (now (vectors .entry))) ⌝ }
-{
-    let columns = pattern.columns;
-    let first = row * columns;
-    let mut column: usize = 0;
-    while column < columns {
-        if space::splits(vectors, free, table[first + column]) {
-            return true;
-        }
-        column += 1;
-    }
-    false
-}
-
-// Whether some row is shown by all members, so that none is clear. A short period of the register makes such rows. Where it says no, nothing is promised.
-fn all_show(
-    pattern: Pattern,
-    table: &[u64],
-    rows: usize,
-    lowest: u64,
-    vectors: &[u64],
-    free: usize,
-) -> bool
-    requires { ⌜ rows * pattern .columns ≤ length (now table) ⌝ }
-    ensures { λ r. ⌜ (r ≡ true → (s : ℕ) → among lowest (take free (now (vectors .entry))) s ≡ true → clear pattern (now (table .entry)) rows s ≡ false) ⌝ }
-{
-    let mut place: usize = 0;
-    while place < rows {
-        if shown(pattern, table, place, lowest) {
-            if !varies(pattern, table, place, vectors, free) {
-                return true;
-            }
-        }
-        place += 1;
-    }
-    false
 }
 
 // The first row below the bound in which a state shows the pattern, or the bound.
@@ -489,9 +448,6 @@ pub fn lowest_clear(
     requires { ⌜ rows * pattern .columns ≤ length (now table) ⌝ }
     ensures { λ r. ⌜ r ≡ lowestClear pattern (now (table .entry)) rows lowest (take free vectors) ⌝ }
 {
-    if all_show(pattern, table, rows, lowest, &vectors, free) {
-        return Found::Nothing;
-    }
     if LEAF_VECTORS < free {
         let found = rise(pattern, table, rows, lowest, vectors, free);
         if let Found::State(state) = found {

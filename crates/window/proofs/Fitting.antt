@@ -1,7 +1,7 @@
 -- Laws of meeting the slices of a window, as its loop goes up through them.
 --     row-part          a row of the table, as a part of it
 --     meet-last         one slice more
---     meet-front        who meets more slices meets fewer
+--     meet-front, meet-at     who meets more slices meets fewer, and each of them
 --     Fitted            what the loop keeps: the members that meet the slices so far
 --     fitted-start, fitted-next, fitted-none, fitted-end     at the start, after a slice, where nothing is left, and at the end
 --     closed-yes, closed-no     the closing stop after the slices, or none
@@ -74,6 +74,14 @@ module _ (c : ℕ) (table : List ℕ) where
         narrows-same (λ s. Q k s && Meets k d s) (Q (k + 1)) x us z ws
         (λ s. sym (ap (λ (n : ℕ). Q n s) (add-one k) ∙ meet-last w 0 k s d (omega (arith, long)) ∙ ap₂ (λ (n : ℕ) (t : TestSlice). Q k s && Meets n t s) e (slices-at c ps bs b k d h)))
         (narrows-then (Q k) (Meets k d) x us y vs z ws f g)
+
+    -- who meets one slice more meets that slice
+    pub meet-at : (k s : ℕ) → k < length ps → Q (k + 1) s ≡ true → Meets k (sliceAt ps bs k) s ≡ true
+    meet-at k s h t =
+        let d = sliceAt ps bs k in
+        let e : 0 + k ≡ k = omega arith in
+        both (Q k s) (Meets k d s)
+        (sym (ap (λ (n : ℕ). Q n s) (add-one k) ∙ meet-last w 0 k s d (omega (arith, long)) ∙ ap₂ (λ (n : ℕ) (t : TestSlice). Q k s && Meets n t s) e (slices-at c ps bs b k d h)) ∙ t) .1
 
     -- where no member is left, none meets so many slices or more
     pub fitted-none : (k : ℕ) (z : Space) (ws : List ℕ) → Fitted w x us k z ws → z .some ≡ false → (j s : ℕ) → k ≤ j → Member x us s → Q j s ≡ false

@@ -3,26 +3,29 @@
 --     held-new           a space that is written
 --     Growing            what the loop keeps: the states that meet the slices so far, and the spaces that are written
 --     growing-start, growing-next, growing-beyond     at the start, after a slice whose space is written, and after one whose space is not
---     grown-stop, grown-end     where nothing is left, and at the end
+--     grew-stop, grew-end     where nothing is left, and at the end
+--     grown-part         the spaces of a part that is cut off
 --     held-part, held-whole     a space as that of a part, and with its vectors
 --     storing-start, storing-next, storing-before, storing-end     of a loop that writes the vectors of a space
 --     loading-next, loading-end     of a loop that reads them
 -- Assumes nothing.
 use mathlib.Core.Path.{_≡_, refl, sym, ap, ap₂, _∙_, subst}
-use mathlib.Core.Logic.{⊎-elim}
-use mathlib.Core.Bool.{Bool, true, false}
+use mathlib.Core.Logic.{_⊎_, inl, inr, ⊎-elim}
+use mathlib.Core.Bool.{Bool, true, false, _&&_}
 use mathlib.Core.List.{List}
 use Prim.Native.Nat.{ℕ, suc, _+_, _-_, _*_, _^_, _≤_, _<_, min}
 use native.Mathlib.Omega.{arith}
 use lib.ListN.{getD, length, take, drop, set, length-drop, length-set, length-take}
 use lib.Seq.{ext-getD, length-take-le, take-all, take-take, getD-drop, getD-take, getD-set-same, getD-set-other}
 use borrow.Author.Count.{below-more}
-use Rattle.bounded.proofs.Tests.{eq-or-not}
+use Rattle.bounded.proofs.Tests.{both, clash, eq-or-not, fails, lt-or-le}
 use Rattle.space.specs.declared.Space.{Space}
+use Rattle.search.specs.Clauses.{clear}
+use Rattle.search.specs.declared.Pattern.{Pattern}
 use Rattle.slices.specs.declared.TestSlice.{TestSlice}
 use Rattle.slices.specs.Slices.{paired, badSlices}
 use Rattle.slices.proofs.Formed.{slices-length, paired-take}
-use Rattle.window.specs.Code.{allMeet, allStates, unitsOf, Narrows, heldVectors, Holds, HeldAt, Grown}
+use Rattle.window.specs.Code.{allMeet, allStates, unitsOf, Narrows, heldVectors, Holds, HeldAt, Grew, Unquiet, Grown}
 use Rattle.window.proofs.Fitting.{Fitted, fitted-start, fitted-none}
 use Rattle.window.proofs.Seeds.{states-complete}
 
@@ -93,20 +96,51 @@ module _ (c : ℕ) (table : List ℕ) (ps bs : List ℕ) (b : badSlices c ps bs 
   abbrev w : List TestSlice
   w = paired ps bs
 
-  pub grown-stop : (k : ℕ) (y : Space) (vs spaces : List ℕ) (z : Space) (ws : List ℕ) → k < length ps → Growing c table w cells k y vs spaces
-      → Fitted c table w (allStates cells) (unitsOf cells) (k + 1) z ws → z .some ≡ false → Grown c table w cells spaces k
-  grown-stop k y vs spaces z ws h g f e = record {
+  pub grew-stop : (k : ℕ) (y : Space) (vs spaces : List ℕ) (z : Space) (ws : List ℕ) → k < length ps → Growing c table w cells k y vs spaces
+      → Fitted c table w (allStates cells) (unitsOf cells) (k + 1) z ws → z .some ≡ false → Grew c table w cells spaces k
+  grew-stop k y vs spaces z ws h g f e = record {
     within = omega (arith, slices-length c ps bs b);
     held = g .held;
     more = λ j s l m u. fitted-none c table ps bs b (allStates cells) (unitsOf cells) (k + 1) z ws f e j s (omega arith) (states-complete cells few s u);
   }
 
-  pub grown-end : (k : ℕ) (y : Space) (vs spaces : List ℕ) → k ≤ length ps → length ps ≤ k → Growing c table w cells k y vs spaces → Grown c table w cells spaces k
-  grown-end k y vs spaces h l g = record {
+  pub grew-end : (k : ℕ) (y : Space) (vs spaces : List ℕ) → k ≤ length ps → length ps ≤ k → Growing c table w cells k y vs spaces → Grew c table w cells spaces k
+  grew-end k y vs spaces h l g = record {
     within = omega (arith, slices-length c ps bs b);
     held = g .held;
     more = λ j s m n u. absurd (omega (arith, slices-length c ps bs b));
   }
+
+-- the spaces of a part that is cut off where no state is quiet any more
+pub grown-part : (c : ℕ) (table : List ℕ) (p : Pattern) (clauses ps bs : List ℕ) (b : badSlices c ps bs ≡ false) (cells : ℕ) (spaces : List ℕ) (q k : ℕ) → Unquiet c table p clauses (paired ps bs) cells q
+    → Grew c table (paired (take q ps) (take q bs)) cells spaces k → Grown c table p clauses (paired ps bs) cells spaces k
+grown-part c table p clauses ps bs b cells spaces q k u g = record {
+  unquiet = record {
+    within = omega (arith, u .within, few);
+    more = λ j s l m h. ⊎-elim
+        (λ le. fails (allMeet c table 0 (take j w) s && clear p clauses j s) (λ t. clash (allMeet c table 0 (take j w) s) (both (allMeet c table 0 (take j w) s) (clear p clauses j s) t .0)
+        (subst (λ (v : List TestSlice). allMeet c table 0 v s ≡ false) (front j le) (g .more j s l (omega (arith, cut)) h))))
+        (λ gt. u .more j s gt m h)
+        (split j);
+  };
+  held = λ j h m t. subst (λ (v : List TestSlice). Narrows (allMeet c table 0 v) (allStates cells) (unitsOf cells) (record { lowest = getD spaces ((j - 1) * 66) 0; free = getD spaces ((j - 1) * 66 + 1) 0; some = true }) (heldVectors spaces ((j - 1) * 66) (getD spaces ((j - 1) * 66 + 1) 0)))
+      (front j (omega (arith, few))) (g .held j h m t);
+}
+  where
+    w : List TestSlice
+    w = paired ps bs
+
+    cut : length (paired (take q ps) (take q bs)) ≡ q
+    cut = ap length (paired-take q ps bs) ∙ length-take-le q (paired ps bs) (u .within)
+
+    few : k ≤ q
+    few = omega (arith, g .within, cut)
+
+    front : (j : ℕ) → j ≤ q → take j (paired (take q ps) (take q bs)) ≡ take j (paired ps bs)
+    front j h = ap (take j) (paired-take q ps bs) ∙ take-take j q (paired ps bs) h
+
+    split : (j : ℕ) → (j ≤ q) ⊎ (q < j)
+    split j = ⊎-elim (λ l. inr l) (λ l. inl l) (lt-or-le q j)
 
 -- a space is that of the slices cut off at its number
 pub held-part : (c : ℕ) (table ps bs : List ℕ) (cells : ℕ) (spaces : List ℕ) (k : ℕ) → k ≤ length ps → HeldAt c table (paired ps bs) cells spaces k

@@ -7,5 +7,6 @@ pub mod Fitting
 pub mod Covering
 pub mod Seeds
 pub mod Growing
+pub mod Keeping
 pub mod Reaching
 pub mod Calls

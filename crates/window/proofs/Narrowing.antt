@@ -30,7 +30,7 @@ narrows-same P Q y vs z ws e c = record {
 }
 
 -- a space that has a lowest member is not empty
-some-member : (y : Space) (vs : List ℕ) → y .some ≡ true → Member y vs (y .lowest)
+pub some-member : (y : Space) (vs : List ℕ) → y .some ≡ true → Member y vs (y .lowest)
 some-member y vs e = (e, is-among vs (y .lowest) (y .lowest) (among-lowest vs (y .lowest)))
 
 pub narrows-then : (P Q : ℕ → Bool) (y : Space) (vs : List ℕ) (z : Space) (ws : List ℕ) (u : Space) (us : List ℕ)

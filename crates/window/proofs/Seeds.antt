@@ -2,8 +2,8 @@
 --     ready-fewer      tables of more rows serve fewer
 --     states-sound, states-complete, states-rising     the space of all states
 --     seed-none        nothing is allowed: no state covers
---     seed-lowest      otherwise the seed is the lowest clear member
---     unmet            nor is there a seed where no state meets the slices
+--     seed-lowest      otherwise the seed is the lowest clear member; what is not clear may have gone out before
+--     unmet            nor is there a seed where no state meets the slices and is clear
 -- Assumes nothing.
 use mathlib.Core.Path.{_≡_, refl, sym, ap, _∙_, subst}
 use mathlib.Core.Bool.{Bool, true, false, _&&_}
@@ -31,7 +31,7 @@ use Rattle.search.specs.Clauses.{clear}
 use Rattle.search.specs.Search.{foundOf, lowestClear}
 use Rattle.covering.specs.Covering.{covers, seedOf}
 use Rattle.window.specs.Ready.{Tabled, Ready}
-use Rattle.window.specs.Code.{allMeet, allowed, allStates, unitsOf, Member, Narrows}
+use Rattle.window.specs.Code.{allMeet, allowed, allStates, unitsOf, Member, Narrows, Keeps}
 use Rattle.window.proofs.Covering.{covers-tables}
 
 tabled-fewer : (taps m n : ℕ) (masks table : List ℕ) → m ≤ n → Tabled taps n masks table → Tabled taps m masks table
@@ -90,31 +90,31 @@ module _ (g : Settings) (masks : List ℕ) (stop : TestSlice) (p : Pattern) (tab
   table-covers : (closing : Bool) (s : ℕ) → covers M stop closing w s ≡ (allowed c table stop closing w s && clear p clauses (length w) s)
   table-covers closing s = covers-tables g masks stop p table clauses n r w closing s h f
 
-  module _ (closing : Bool) (y : Space) (vs : List ℕ) (cut : Narrows (allowed c table stop closing w) (allStates (g .cells)) (unitsOf (g .cells)) y vs) where
+  module _ (closing : Bool) (x : Space) (us : List ℕ) (cut : Narrows (allowed c table stop closing w) (allStates (g .cells)) (unitsOf (g .cells)) x us) (y : Space) (vs : List ℕ) (kept : Keeps (clear p clauses (length w)) x us y vs) where
     pub seed-none : y .some ≡ false → seedOf M stop closing w ≡ none
     unfolding seedOf
     seed-none e = none-of (covers M stop closing w) (2 ^ g .cells) (λ s l.
         fails (covers M stop closing w s) (λ t.
         let a = both (allowed c table stop closing w s) (clear p clauses (length w) s) (sym (table-covers closing s) ∙ t) in
-        clash (y .some) (cut .complete s (states-complete (g .cells) few s l) (a .0) .0) e))
+        clash (y .some) (kept .complete s (cut .complete s (states-complete (g .cells) few s l) (a .0)) (a .1) .0) e))
 
     pub seed-lowest : y .some ≡ true → lowestClear p clauses (length w) (y .lowest) vs ≡ foundOf (seedOf M stop closing w)
     unfolding seedOf lowestClear
     seed-lowest e = ap foundOf (least-same (λ s. among (y .lowest) vs s && clear p clauses (length w) s) (covers M stop closing w) (2 ^ 64) (2 ^ g .cells)
         (λ s l t.
         let a = both (among (y .lowest) vs s) (clear p clauses (length w) s) t in
-        let m = cut .sound s (e, a .0) in
+        let m = cut .sound s (kept .sound s (e, a .0)) in
         (states-sound (g .cells) few s (m .0), table-covers closing s ∙ and-yes (allowed c table stop closing w s) (clear p clauses (length w) s) (m .1) (a .1)))
         (λ s l t.
         let a = both (allowed c table stop closing w s) (clear p clauses (length w) s) (sym (table-covers closing s) ∙ t) in (
           lt-of-lt-of-le l (pow-mono {i = g .cells} {j = 64} few),
-          and-yes (among (y .lowest) vs s) (clear p clauses (length w) s) (cut .complete s (states-complete (g .cells) few s l) (a .0) .1) (a .1),
+          and-yes (among (y .lowest) vs s) (clear p clauses (length w) s) (kept .complete s (cut .complete s (states-complete (g .cells) few s l) (a .0)) (a .1) .1) (a .1),
         )))
 
-  -- who covers a window meets its slices
-  pub unmet : (closing : Bool) → ((s : ℕ) → s < 2 ^ g .cells → allMeet c table 0 w s ≡ false) → seedOf M stop closing w ≡ none
+  -- who covers a window meets its slices and is clear in their rows
+  pub unmet : (closing : Bool) → ((s : ℕ) → s < 2 ^ g .cells → (allMeet c table 0 w s && clear p clauses (length w) s) ≡ false) → seedOf M stop closing w ≡ none
   unfolding seedOf allowed
   unmet closing u = none-of (covers M stop closing w) (2 ^ g .cells) (λ s l.
       fails (covers M stop closing w s) (λ t.
       let a = both (allowed c table stop closing w s) (clear p clauses (length w) s) (sym (table-covers closing s) ∙ t) in
-      clash (allMeet c table 0 w s) (both (allMeet c table 0 w s) _ (a .0) .0) (u s l)))
+      clash (allMeet c table 0 w s && clear p clauses (length w) s) (and-yes (allMeet c table 0 w s) (clear p clauses (length w) s) (both (allMeet c table 0 w s) _ (a .0) .0) (a .1)) (u s l)))

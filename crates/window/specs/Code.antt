@@ -3,13 +3,16 @@
 --     allMeet c table t w s   so it is of the slices of w, from row t of the table on
 --     Member y vs s           s is a member of the space y with the vectors vs
 --     Narrows Q y vs z ws         the members of z are exactly those of y that pass Q, and the vectors rise still
+--     Keeps K y vs z ws           the members of z are members of y, all those that pass K among them, and the vectors rise still
 --     allStates cells, unitsOf cells     the space of all states, and its vectors
 --     closed c table stop closing n s    s shows the stop after n slices, where it must
 --     allowed c table stop closing w s   s meets the slices w and, where it must close, shows the stop after them
 --     heldVectors spaces a f      f vectors of a space that is written from the place a on: its lowest member, how many vectors it has, and those
 --     Holds spaces a x f vs       the space of x and the vectors vs is written there
 --     HeldAt c table w cells spaces k     the states that meet the first k slices of w are the space number k, counted from 1
---     Grown c table w cells spaces k      so it is up to k slices and up to 256, and no state meets more than k of them from the first on
+--     Grew c table w cells spaces k       so it is up to k slices and up to 256, and no state meets more than k of them from the first on
+--     Unquiet c table p clauses w cells k     no state meets more than k slices from the first on without showing the stop in one of them
+--     Grown c table p clauses w cells spaces k     the spaces are written up to k slices, and no state meets more so
 use mathlib.Core.Path.{_≡_}
 use mathlib.Core.Bool.{Bool, true, false, not, _&&_, _||_}
 use mathlib.Core.List.{List, [], _∷_}
@@ -19,7 +22,8 @@ use lib.ListN.{drop, getD, length, take}
 use Rattle.gf2.specs.Words.{odd}
 use Rattle.space.specs.declared.Space.{Space}
 use Rattle.space.specs.Space.{among, units, Rising}
-use Rattle.search.specs.Clauses.{row}
+use Rattle.search.specs.Clauses.{row, clear}
+use Rattle.search.specs.declared.Pattern.{Pattern}
 use Rattle.slices.specs.declared.TestSlice.{TestSlice}
 
 unfoldable pub meets : List ℕ → ℕ → ℕ → ℕ → Bool
@@ -36,6 +40,11 @@ Member y vs s = (y .some ≡ true) × (among (y .lowest) vs s ≡ true)
 pub record Narrows (Q : ℕ → Bool) (y : Space) (vs : List ℕ) (z : Space) (ws : List ℕ) : Type 0 where
   pub sound : (s : ℕ) → Member z ws s → Member y vs s × (Q s ≡ true)
   pub complete : (s : ℕ) → Member y vs s → Q s ≡ true → Member z ws s
+  pub rising : Rising (y .lowest) 0 vs → z .some ≡ true → Rising (z .lowest) 0 ws
+
+pub record Keeps (K : ℕ → Bool) (y : Space) (vs : List ℕ) (z : Space) (ws : List ℕ) : Type 0 where
+  pub sound : (s : ℕ) → Member z ws s → Member y vs s
+  pub complete : (s : ℕ) → Member y vs s → K s ≡ true → Member z ws s
   pub rising : Rising (y .lowest) 0 vs → z .some ≡ true → Rising (z .lowest) 0 ws
 
 abbrev pub allStates : ℕ → Space
@@ -65,7 +74,15 @@ HeldAt c table w cells spaces k =
     Narrows (allMeet c table 0 (take k w)) (allStates cells) (unitsOf cells)
     (record { lowest = getD spaces ((k - 1) * 66) 0; free = getD spaces ((k - 1) * 66 + 1) 0; some = true }) (heldVectors spaces ((k - 1) * 66) (getD spaces ((k - 1) * 66 + 1) 0))
 
-pub record Grown (c : ℕ) (table : List ℕ) (w : List TestSlice) (cells : ℕ) (spaces : List ℕ) (k : ℕ) : Type 0 where
+pub record Grew (c : ℕ) (table : List ℕ) (w : List TestSlice) (cells : ℕ) (spaces : List ℕ) (k : ℕ) : Type 0 where
   pub within : k ≤ length w
   pub held : (j : ℕ) → 0 < j → j ≤ k → j ≤ 256 → HeldAt c table w cells spaces j
   pub more : (j s : ℕ) → k < j → j ≤ length w → s < 2 ^ cells → allMeet c table 0 (take j w) s ≡ false
+
+pub record Unquiet (c : ℕ) (table : List ℕ) (p : Pattern) (clauses : List ℕ) (w : List TestSlice) (cells k : ℕ) : Type 0 where
+  pub within : k ≤ length w
+  pub more : (j s : ℕ) → k < j → j ≤ length w → s < 2 ^ cells → (allMeet c table 0 (take j w) s && clear p clauses j s) ≡ false
+
+pub record Grown (c : ℕ) (table : List ℕ) (p : Pattern) (clauses : List ℕ) (w : List TestSlice) (cells : ℕ) (spaces : List ℕ) (k : ℕ) : Type 0 where
+  pub unquiet : Unquiet c table p clauses w cells k
+  pub held : (j : ℕ) → 0 < j → j ≤ k → j ≤ 256 → HeldAt c table w cells spaces j

@@ -23,10 +23,10 @@ ghost use Rattle.covering.specs.Single.{windowSeed, lowestOr7, WindowMeaning};
 ghost use Rattle.table.specs.Rows.{rowsOf};
 ghost use Rattle.table.specs.Chosen.{chosen as chosenOf};
 ghost use Rattle.search.specs.Search.{foundOf};
-ghost use Rattle.search.specs.Clauses.{row as rowOf};
+ghost use Rattle.search.specs.Clauses.{clear, row as rowOf};
 ghost use Rattle.window.specs.Ready.{patternOf, Ready};
 ghost use Rattle.window.specs.Longest.{reachOf};
-ghost use Rattle.window.specs.Code.{allMeet, allStates, closed, Grown, HeldAt, heldVectors, Holds, meets, Narrows, unitsOf};
+ghost use Rattle.window.specs.Code.{allMeet, allStates, closed, Grew, Grown, HeldAt, heldVectors, Holds, Keeps, meets, Narrows, unitsOf, Unquiet};
 
 // The most entries of a table: rows 0 to 256 of 64 chains.
 pub const MOST_ENTRIES: usize = 16448;
@@ -152,6 +152,40 @@ fn close(
     space
 }
 
+// The members of a space that may be clear in the first rows of the stop's table: what each row forces is entered, one row after the other.
+fn force_rows(
+    pattern: Pattern,
+    clauses: &[u64],
+    rows: usize,
+    vectors: &mut [u64],
+    space: Space,
+) -> Space
+    requires { ⌜ rows * pattern .columns ≤ length (now clauses) ⌝ }
+    ensures { λ r. ⌜ Keeps (clear pattern (now (clauses .entry)) rows) space (take (space .free) (now (vectors .entry))) r (take (r .free) (now (vectors .exit))) ⌝ }
+{
+    let mut kept = space;
+    let mut row: usize = 0;
+    while row < rows {
+        kept = forcing::force_row(pattern, clauses, row, vectors, kept);
+        row += 1;
+    }
+    kept
+}
+
+// The same, again and again while vectors go out: a position that is forced may force another.
+fn force(pattern: Pattern, clauses: &[u64], rows: usize, vectors: &mut [u64], space: Space) -> Space
+    requires { ⌜ rows * pattern .columns ≤ length (now clauses) ⌝ }
+    ensures { λ r. ⌜ Keeps (clear pattern (now (clauses .entry)) rows) space (take (space .free) (now (vectors .entry))) r (take (r .free) (now (vectors .exit))) ⌝ }
+{
+    let mut free = space.free;
+    let mut kept = force_rows(pattern, clauses, rows, vectors, space);
+    while kept.free < free {
+        free = kept.free;
+        kept = force_rows(pattern, clauses, rows, vectors, kept);
+    }
+    kept
+}
+
 // The lowest state that covers a window, from the states that its bits allow: the lowest of those that close it and do not show the stop before.
 fn lowest_covering(
     settings: Settings,
@@ -175,10 +209,11 @@ fn lowest_covering(
     let chains = masks.len();
     let slices = specified.len();
     let allowed = close(&mut kept, space, table, chains, stop, closing, slices);
-    if !allowed.some {
+    let forced = force(pattern, clauses, slices, &mut kept, allowed);
+    if !forced.some {
         return Found::Nothing;
     }
-    search::lowest_clear(pattern, clauses, slices, allowed.lowest, kept, allowed.free)
+    search::lowest_clear(pattern, clauses, slices, forced.lowest, kept, forced.free)
 }
 
 // A space and its vectors, written from a place on.
@@ -216,7 +251,7 @@ fn load(spaces: &[u64], place: usize, free: usize) -> [u64; 64]
     vectors
 }
 
-// How many slices of a part, from the first on, can be met together; for each number of them up to that and up to 256, the space of the states that meet them is written.
+// How many slices of a part, from the first on, are met together by some state; for each number of them up to that and up to 256, the space of the states that meet them is written.
 fn grow(
     cells: usize,
     table: &[u64],
@@ -228,7 +263,7 @@ fn grow(
     requires slices { ⌜ badSlices chains (now specified) (now bits) ≡ false ⌝ }
     requires table { ⌜ length (now specified) * chains ≤ length (now table) ⌝ }
     requires space { ⌜ (cells ≤ 64) × (length (now spaces) ≡ 16896) ⌝ }
-    ensures { λ r. ⌜ Grown chains (now (table .entry)) (paired (now (specified .entry)) (now (bits .entry))) cells (now (spaces .exit)) r ⌝ }
+    ensures { λ r. ⌜ Grew chains (now (table .entry)) (paired (now (specified .entry)) (now (bits .entry))) cells (now (spaces .exit)) r ⌝ }
 {
     let mut vectors = space::units();
     let mut kept = Space {
@@ -248,6 +283,43 @@ fn grow(
         }
         if slice < MOST_KEPT {
             store(spaces, slice * 66, kept, &vectors);
+        }
+        slice += 1;
+    }
+    slice
+}
+
+// How many slices of a part, from the first on, a state may meet without showing the stop in any of them, as far as equations tell: what each row forces is entered into a space of its own, slice by slice. No state meets more so.
+fn most_quiet(
+    cells: usize,
+    pattern: Pattern,
+    table: &[u64],
+    clauses: &[u64],
+    chains: usize,
+    specified: &[u64],
+    bits: &[u64],
+) -> usize
+    requires slices { ⌜ badSlices chains (now specified) (now bits) ≡ false ⌝ }
+    requires table { ⌜ length (now specified) * chains ≤ length (now table) ⌝ }
+    requires clauses { ⌜ (cells ≤ 64) × (length (now specified) * pattern .columns ≤ length (now clauses)) ⌝ }
+    ensures { λ r. ⌜ Unquiet chains (now (table .entry)) pattern (now (clauses .entry)) (paired (now (specified .entry)) (now (bits .entry))) cells r ⌝ }
+{
+    let mut vectors = space::units();
+    let mut kept = Space {
+        lowest: 0,
+        free: cells,
+        some: true,
+    };
+    let mut slice: usize = 0;
+    while slice < specified.len() {
+        let test = TestSlice {
+            specified: specified[slice],
+            bits: bits[slice],
+        };
+        kept = meet_row(&mut vectors, kept, table, chains, slice, test);
+        kept = forcing::force_row(pattern, clauses, slice, &mut vectors, kept);
+        if !kept.some {
+            return slice;
         }
         slice += 1;
     }
@@ -363,7 +435,7 @@ fn descend(
 ) -> Window
     requires ready { ⌜ Ready settings (now masks) stop pattern (now table) (now clauses) (suc (length (now specified))) ⌝ }
     requires slices { ⌜ badSlices (length (now masks)) (now specified) (now bits) ≡ false ⌝ }
-    requires grown { ⌜ (length (now spaces) ≡ 16896) × Grown (length (now masks)) (now table) (paired (now specified) (now bits)) (settings .cells) (now spaces) most ⌝ }
+    requires grown { ⌜ (length (now spaces) ≡ 16896) × Grown (length (now masks)) (now table) pattern (now clauses) (paired (now specified) (now bits)) (settings .cells) (now spaces) most ⌝ }
     ensures { λ r. ⌜ r ≡ reachOf (machine settings (now (masks .entry))) stop closing (paired (now (specified .entry)) (now (bits .entry))) ⌝ }
 {
     let whole = specified.len();
@@ -409,12 +481,15 @@ pub fn reach(
     ensures { λ r. ⌜ r ≡ reachOf (machine settings (now (masks .entry))) stop closing (paired (now (specified .entry)) (now (bits .entry))) ⌝ }
 {
     let mut spaces = [0u64; KEPT_ENTRIES];
-    let most = grow(
-        settings.cells,
+    let cells = settings.cells;
+    let chains = masks.len();
+    let quiet = most_quiet(cells, pattern, table, clauses, chains, specified, bits);
+    let met = grow(
+        cells,
         table,
-        masks.len(),
-        specified,
-        bits,
+        chains,
+        &specified[..quiet],
+        &bits[..quiet],
         &mut spaces,
     );
     descend(
@@ -428,7 +503,7 @@ pub fn reach(
         specified,
         bits,
         &spaces,
-        most,
+        met,
     )
 }
 

@@ -1,0 +1,3 @@
+-- What a row of a table forces in a space.
+
+pub mod Forcing

@@ -1,0 +1,81 @@
+-- Forced positions: a space that keeps every member that is clear.
+--     keeps-none, keeps-then     nothing is forced; one after the other
+--     keeps-row          what a row forces
+--     Quiet, quiet-start, quiet-next     of a loop over the slices: every state that meets the slices so far and is clear in their rows is left
+--     unquiet-stop, unquiet-end     where nothing is left, and at the end
+-- Assumes nothing.
+use mathlib.Core.Path.{_≡_, refl, sym, ap, _∙_, subst}
+use mathlib.Core.Bool.{Bool, true, false, not, _&&_}
+use mathlib.Core.List.{List}
+use Prim.Native.Nat.{ℕ, suc, _+_, _^_, _≤_, _<_}
+use native.Mathlib.Numerals.{add-one}
+use native.Mathlib.Omega.{arith}
+use lib.ListN.{length, take}
+use borrow.Author.Tests.{not-true}
+use Rattle.bounded.proofs.Tests.{both, clash, fails}
+use Rattle.space.specs.declared.Space.{Space}
+use Rattle.space.specs.Space.{Rising}
+use Rattle.search.specs.declared.Pattern.{Pattern}
+use Rattle.search.specs.Clauses.{row, shown, clear}
+use Rattle.search.proofs.Reading.{clear-at, clear-front}
+use Rattle.slices.specs.declared.TestSlice.{TestSlice}
+use Rattle.slices.specs.Slices.{paired, badSlices}
+use Rattle.slices.proofs.Causes.{sliceAt}
+use Rattle.slices.proofs.Formed.{slices-length}
+use Rattle.forcing.specs.Forcing.{forced, forcedVectors}
+use Rattle.forcing.proofs.Forcing.{forced-sound, forced-complete, forced-rising}
+use Rattle.window.specs.Code.{meets, allMeet, allStates, unitsOf, Member, Narrows, Keeps, Unquiet}
+use Rattle.window.proofs.Narrowing.{some-member}
+use Rattle.window.proofs.Fitting.{meet-front, meet-at}
+use Rattle.window.proofs.Seeds.{states-complete}
+
+pub keeps-none : (K : ℕ → Bool) (y : Space) (vs : List ℕ) → Keeps K y vs y vs
+keeps-none K y vs = record { sound = λ s m. m; complete = λ s m k. m; rising = λ r e. r }
+
+pub keeps-then : (K : ℕ → Bool) (y : Space) (vs : List ℕ) (z : Space) (ws : List ℕ) (u : Space) (us : List ℕ) → Keeps K y vs z ws → Keeps K z ws u us → Keeps K y vs u us
+keeps-then K y vs z ws u us a b = record {
+  sound = λ s m. a .sound s (b .sound s m);
+  complete = λ s m k. b .complete s (a .complete s m k) k;
+  rising = λ r e. b .rising (a .rising r (b .sound (u .lowest) (some-member u us e) .0)) e;
+}
+
+pub keeps-row : (p : Pattern) (table : List ℕ) (m t : ℕ) (y : Space) (vs : List ℕ) → t < m → Keeps (clear p table m) y vs (forced p table t vs y) (forcedVectors p table t vs y)
+keeps-row p table m t y vs h = record {
+  sound = forced-sound p table t vs y;
+  complete = λ s k c. forced-complete p table t vs y s k (clear-at p table s m t c h);
+  rising = forced-rising p table t vs y;
+}
+
+-- ---- while the prefix grows
+
+abbrev pub Quiet : ℕ → List ℕ → Pattern → List ℕ → List TestSlice → ℕ → ℕ → Space → List ℕ → Type 0
+Quiet c table p clauses w cells k y vs = (s : ℕ) → s < 2 ^ cells → allMeet c table 0 (take k w) s ≡ true → clear p clauses k s ≡ true → Member y vs s
+
+module _ (c : ℕ) (table : List ℕ) (p : Pattern) (clauses ps bs : List ℕ) (b : badSlices c ps bs ≡ false) (cells : ℕ) where
+  abbrev w : List TestSlice
+  w = paired ps bs
+
+  abbrev So : ℕ → Space → List ℕ → Type 0
+  So = Quiet c table p clauses w cells
+
+  pub quiet-start : cells ≤ 64 → So 0 (allStates cells) (unitsOf cells)
+  quiet-start few s h a k = states-complete cells few s h
+
+  pub quiet-next : (k : ℕ) (y : Space) (vs : List ℕ) (z : Space) (ws : List ℕ) → k < length ps → So k y vs → Narrows (meets (row c table k) (sliceAt ps bs k .specified) (sliceAt ps bs k .bits)) y vs z ws
+      → So (k + 1) (forced p clauses k ws z) (forcedVectors p clauses k ws z)
+  quiet-next k y vs z ws h q n s l a e =
+      let f : clear p clauses k s ≡ true = clear-front p clauses s (k + 1) k (omega arith) e in
+      forced-complete p clauses k ws z s
+      (n .complete s (q s l (meet-front c table w 0 k (k + 1) s (omega arith) a) f) (meet-at c table ps bs b (allStates cells) (unitsOf cells) k s h a))
+      (clear-at p clauses s (k + 1) k e (omega arith))
+
+  pub unquiet-stop : (k : ℕ) (y : Space) (vs : List ℕ) → k < length ps → So (k + 1) y vs → y .some ≡ false → Unquiet c table p clauses w cells k
+  unquiet-stop k y vs h q e = record {
+    within = omega (arith, slices-length c ps bs b);
+    more = λ j s l m u. fails (allMeet c table 0 (take j w) s && clear p clauses j s) (λ t.
+        let d = both (allMeet c table 0 (take j w) s) (clear p clauses j s) t in
+        clash (y .some) (q s u (meet-front c table w 0 (k + 1) j s (omega arith) (d .0)) (clear-front p clauses s j (k + 1) (omega arith) (d .1)) .0) e);
+  }
+
+  pub unquiet-end : (k : ℕ) → k ≤ length ps → length ps ≤ k → Unquiet c table p clauses w cells k
+  unquiet-end k h l = record { within = omega (arith, slices-length c ps bs b); more = λ j s m n u. absurd (omega (arith, slices-length c ps bs b)) }
