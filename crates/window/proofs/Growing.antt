@@ -13,7 +13,7 @@ use mathlib.Core.Path.{_≡_, refl, sym, ap, ap₂, _∙_, subst}
 use mathlib.Core.Logic.{_⊎_, inl, inr, ⊎-elim}
 use mathlib.Core.Bool.{Bool, true, false, _&&_}
 use mathlib.Core.List.{List}
-use Prim.Native.Nat.{ℕ, suc, _+_, _-_, _*_, _^_, _≤_, _<_, min}
+use Prim.Native.Nat.{ℕ, suc, _+_, _-_, _*_, _/_, _^_, _≤_, _<_, min}
 use native.Mathlib.Omega.{arith}
 use lib.ListN.{getD, length, take, drop, set, length-drop, length-set, length-take}
 use lib.Seq.{ext-getD, length-take-le, take-all, take-take, getD-drop, getD-take, getD-set-same, getD-set-other}
@@ -63,22 +63,22 @@ module _ (c : ℕ) (table : List ℕ) (w : List TestSlice) (cells : ℕ) where
       (subst (λ (q : ℕ). At k (y .lowest) q (heldVectors new b q)) (sym (h .free))
       (subst (λ (us : List ℕ). At k (y .lowest) (y .free) us) (sym (h .vectors)) m))
 
-  pub record Growing (k : ℕ) (y : Space) (vs spaces : List ℕ) : Type 0 where
-    pub long : length spaces ≡ 16896
+  pub record Growing (n k : ℕ) (y : Space) (vs spaces : List ℕ) : Type 0 where
+    pub long : length spaces ≡ n
     pub some : y .some ≡ true
     pub fitted : Fitted c table w (allStates cells) (unitsOf cells) k y vs
-    pub held : (j : ℕ) → 0 < j → j ≤ k → j ≤ 256 → HeldAt c table w cells spaces j
+    pub held : (j : ℕ) → 0 < j → j ≤ k → j ≤ n / 66 → HeldAt c table w cells spaces j
 
-  pub growing-start : (spaces : List ℕ) → length spaces ≡ 16896 → Growing 0 (allStates cells) (unitsOf cells) spaces
-  growing-start spaces l = record {
-    long = l;
+  pub growing-start : (spaces : List ℕ) → Growing (length spaces) 0 (allStates cells) (unitsOf cells) spaces
+  growing-start spaces = record {
+    long = refl;
     some = refl;
     fitted = fitted-start c table w (allStates cells) (unitsOf cells);
     held = λ j h b. absurd (omega arith);
   }
 
-  module _ (k : ℕ) (y : Space) (vs spaces : List ℕ) (g : Growing k y vs spaces) (z : Space) (ws : List ℕ) (f : Fitted c table w (allStates cells) (unitsOf cells) (k + 1) z ws) (e : z .some ≡ true) where
-    pub growing-next : (new : List ℕ) → length new ≡ length spaces → ((i : ℕ) → i < k * 66 → getD new i 0 ≡ getD spaces i 0) → Holds new (k * 66) (z .lowest) (z .free) ws → Growing (k + 1) z ws new
+  module _ (n k : ℕ) (y : Space) (vs spaces : List ℕ) (g : Growing n k y vs spaces) (z : Space) (ws : List ℕ) (f : Fitted c table w (allStates cells) (unitsOf cells) (k + 1) z ws) (e : z .some ≡ true) where
+    pub growing-next : (new : List ℕ) → length new ≡ length spaces → ((i : ℕ) → i < k * 66 → getD new i 0 ≡ getD spaces i 0) → Holds new (k * 66) (z .lowest) (z .free) ws → Growing n (k + 1) z ws new
     growing-next new l s h = record {
       long = l ∙ g .long;
       some = e;
@@ -89,25 +89,25 @@ module _ (c : ℕ) (table : List ℕ) (w : List TestSlice) (cells : ℕ) where
           (eq-or-not j (k + 1));
     }
 
-    pub growing-beyond : 256 ≤ k → Growing (k + 1) z ws spaces
+    pub growing-beyond : n / 66 ≤ k → Growing n (k + 1) z ws spaces
     growing-beyond h = record { long = g .long; some = e; fitted = f; held = λ j p b t. g .held j p (omega arith) t }
 
 module _ (c : ℕ) (table : List ℕ) (ps bs : List ℕ) (b : badSlices c ps bs ≡ false) (cells : ℕ) (few : cells ≤ 64) where
   abbrev w : List TestSlice
   w = paired ps bs
 
-  pub grew-stop : (k : ℕ) (y : Space) (vs spaces : List ℕ) (z : Space) (ws : List ℕ) → k < length ps → Growing c table w cells k y vs spaces
+  pub grew-stop : (n k : ℕ) (y : Space) (vs spaces : List ℕ) (z : Space) (ws : List ℕ) → k < length ps → Growing c table w cells n k y vs spaces
       → Fitted c table w (allStates cells) (unitsOf cells) (k + 1) z ws → z .some ≡ false → Grew c table w cells spaces k
-  grew-stop k y vs spaces z ws h g f e = record {
+  grew-stop n k y vs spaces z ws h g f e = record {
     within = omega (arith, slices-length c ps bs b);
-    held = g .held;
+    held = λ j h b t. g .held j h b (omega (arith, ap (λ (m : ℕ). m / 66) (g .long)));
     more = λ j s l m u. fitted-none c table ps bs b (allStates cells) (unitsOf cells) (k + 1) z ws f e j s (omega arith) (states-complete cells few s u);
   }
 
-  pub grew-end : (k : ℕ) (y : Space) (vs spaces : List ℕ) → k ≤ length ps → length ps ≤ k → Growing c table w cells k y vs spaces → Grew c table w cells spaces k
-  grew-end k y vs spaces h l g = record {
+  pub grew-end : (n k : ℕ) (y : Space) (vs spaces : List ℕ) → k ≤ length ps → length ps ≤ k → Growing c table w cells n k y vs spaces → Grew c table w cells spaces k
+  grew-end n k y vs spaces h l g = record {
     within = omega (arith, slices-length c ps bs b);
-    held = g .held;
+    held = λ j h b t. g .held j h b (omega (arith, ap (λ (m : ℕ). m / 66) (g .long)));
     more = λ j s m n u. absurd (omega (arith, slices-length c ps bs b));
   }
 

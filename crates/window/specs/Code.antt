@@ -10,7 +10,7 @@
 --     heldVectors spaces a f      f vectors of a space that is written from the place a on: its lowest member, how many vectors it has, and those
 --     Holds spaces a x f vs       the space of x and the vectors vs is written there
 --     HeldAt c table w cells spaces k     the states that meet the first k slices of w are the space number k, counted from 1
---     Grew c table w cells spaces k       so it is up to k slices and up to 256, and no state meets more than k of them from the first on
+--     Grew c table w cells spaces k       so it is up to k slices, as far as there are entries, and no state meets more than k of them from the first on
 --     Unquiet c table p clauses w cells k     no state meets more than k slices from the first on without showing the stop in one of them
 --     Grown c table p clauses w cells spaces k     the spaces are written up to k slices, and no state meets more so
 use mathlib.Core.Path.{_≡_}
@@ -76,7 +76,7 @@ HeldAt c table w cells spaces k =
 
 pub record Grew (c : ℕ) (table : List ℕ) (w : List TestSlice) (cells : ℕ) (spaces : List ℕ) (k : ℕ) : Type 0 where
   pub within : k ≤ length w
-  pub held : (j : ℕ) → 0 < j → j ≤ k → j ≤ 256 → HeldAt c table w cells spaces j
+  pub held : (j : ℕ) → 0 < j → j ≤ k → j ≤ length spaces / 66 → HeldAt c table w cells spaces j
   pub more : (j s : ℕ) → k < j → j ≤ length w → s < 2 ^ cells → allMeet c table 0 (take j w) s ≡ false
 
 pub record Unquiet (c : ℕ) (table : List ℕ) (p : Pattern) (clauses : List ℕ) (w : List TestSlice) (cells k : ℕ) : Type 0 where
@@ -85,4 +85,4 @@ pub record Unquiet (c : ℕ) (table : List ℕ) (p : Pattern) (clauses : List �
 
 pub record Grown (c : ℕ) (table : List ℕ) (p : Pattern) (clauses : List ℕ) (w : List TestSlice) (cells : ℕ) (spaces : List ℕ) (k : ℕ) : Type 0 where
   pub unquiet : Unquiet c table p clauses w cells k
-  pub held : (j : ℕ) → 0 < j → j ≤ k → j ≤ 256 → HeldAt c table w cells spaces j
+  pub held : (j : ℕ) → 0 < j → j ≤ k → j ≤ length spaces / 66 → HeldAt c table w cells spaces j

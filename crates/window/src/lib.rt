@@ -11,7 +11,7 @@ ghost use mathlib.Core.Bool.{true, false};
 ghost use mathlib.Core.List.{_++_};
 ghost use mathlib.Core.Option.{Option};
 ghost use mathlib.Core.Path.{_≡_};
-ghost use Prim.Native.Nat.{ℕ, suc, _+_, _*_, _^_, _<_, _≤_};
+ghost use Prim.Native.Nat.{ℕ, suc, _+_, _*_, _/_, _^_, _<_, _≤_};
 ghost use lib.ListN.{drop, getD, length, take};
 ghost use Rattle.register.specs.Machine.{base, machine};
 ghost use Rattle.slices.specs.Slices.{badSlices, paired};
@@ -31,10 +31,15 @@ ghost use Rattle.window.specs.Code.{allMeet, allStates, closed, Grew, Gr
 // The most entries of a table: rows 0 to 256 of 64 chains.
 pub const MOST_ENTRIES: usize = 16448;
 
-// Up to how many slices the space of those that meet them is kept, and the entries for these spaces: a lowest member, a number of vectors, and 64 vectors each.
-const MOST_KEPT: usize = 256;
+// The entries of a space that is kept: a lowest member, a number of vectors, and 64 vectors.
+const SPACE_ENTRIES: usize = 66;
 
-const KEPT_ENTRIES: usize = 16896;
+// Up to how many slices a part is short, and the entries for the spaces of a short part and of a long one, of up to 256 slices.
+const SHORT_PART: usize = 16;
+
+const FEW_ENTRIES: usize = 1056;
+
+const MOST_SPACES: usize = 16896;
 
 // The longest window from a start: how many slices it takes, and its seed; 0 and 0 where there is none.
 pub struct Window {
@@ -209,6 +214,9 @@ fn lowest_covering(
     let chains = masks.len();
     let slices = specified.len();
     let allowed = close(&mut kept, space, table, chains, stop, closing, slices);
+    if !allowed.some {
+        return Found::Nothing;
+    }
     let forced = force(pattern, clauses, slices, &mut kept, allowed);
     if !forced.some {
         return Found::Nothing;
@@ -251,7 +259,7 @@ fn load(spaces: &[u64], place: usize, free: usize) -> [u64; 64]
     vectors
 }
 
-// How many slices of a part, from the first on, are met together by some state; for each number of them up to that and up to 256, the space of the states that meet them is written.
+// How many slices of a part, from the first on, are met together by some state; for each number of them up to that, as far as there are entries, the space of the states that meet them is written.
 fn grow(
     cells: usize,
     table: &[u64],
@@ -262,9 +270,10 @@ fn grow(
 ) -> usize
     requires slices { ⌜ badSlices chains (now specified) (now bits) ≡ false ⌝ }
     requires table { ⌜ length (now specified) * chains ≤ length (now table) ⌝ }
-    requires space { ⌜ (cells ≤ 64) × (length (now spaces) ≡ 16896) ⌝ }
+    requires space { ⌜ cells ≤ 64 ⌝ }
     ensures { λ r. ⌜ Grew chains (now (table .entry)) (paired (now (specified .entry)) (now (bits .entry))) cells (now (spaces .exit)) r ⌝ }
 {
+    let places = spaces.len() / SPACE_ENTRIES;
     let mut vectors = space::units();
     let mut kept = Space {
         lowest: 0,
@@ -281,8 +290,8 @@ fn grow(
         if !kept.some {
             return slice;
         }
-        if slice < MOST_KEPT {
-            store(spaces, slice * 66, kept, &vectors);
+        if slice < places {
+            store(spaces, slice * SPACE_ENTRIES, kept, &vectors);
         }
         slice += 1;
     }
@@ -379,11 +388,11 @@ fn length_seed(
 ) -> Found
     requires ready { ⌜ Ready settings (now masks) stop pattern (now table) (now clauses) (suc (length (now specified))) ⌝ }
     requires slices { ⌜ badSlices (length (now masks)) (now specified) (now bits) ≡ false ⌝ }
-    requires held { ⌜ (0 < length (now specified)) × (length (now spaces) ≡ 16896) × (length (now specified) ≤ 256 → HeldAt (length (now masks)) (now table) (paired (now specified) (now bits)) (settings .cells) (now spaces) (length (now specified))) ⌝ }
+    requires held { ⌜ (0 < length (now specified)) × (length (now specified) ≤ length (now spaces) / 66 → HeldAt (length (now masks)) (now table) (paired (now specified) (now bits)) (settings .cells) (now spaces) (length (now specified))) ⌝ }
     ensures { λ r. ⌜ r ≡ foundOf (seedOf (machine settings (now (masks .entry))) stop closing (paired (now (specified .entry)) (now (bits .entry)))) ⌝ }
 {
     let slices = specified.len();
-    if MOST_KEPT < slices {
+    if spaces.len() / SPACE_ENTRIES < slices {
         return found_anew(
             settings,
             masks,
@@ -396,7 +405,7 @@ fn length_seed(
             bits,
         );
     }
-    let place = (slices - 1) * 66;
+    let place = (slices - 1) * SPACE_ENTRIES;
     let free = spaces[place + 1] as usize;
     let space = Space {
         lowest: spaces[place],
@@ -435,7 +444,7 @@ fn descend(
 ) -> Window
     requires ready { ⌜ Ready settings (now masks) stop pattern (now table) (now clauses) (suc (length (now specified))) ⌝ }
     requires slices { ⌜ badSlices (length (now masks)) (now specified) (now bits) ≡ false ⌝ }
-    requires grown { ⌜ (length (now spaces) ≡ 16896) × Grown (length (now masks)) (now table) pattern (now clauses) (paired (now specified) (now bits)) (settings .cells) (now spaces) most ⌝ }
+    requires grown { ⌜ Grown (length (now masks)) (now table) pattern (now clauses) (paired (now specified) (now bits)) (settings .cells) (now spaces) most ⌝ }
     ensures { λ r. ⌜ r ≡ reachOf (machine settings (now (masks .entry))) stop closing (paired (now (specified .entry)) (now (bits .entry))) ⌝ }
 {
     let whole = specified.len();
@@ -462,7 +471,117 @@ fn descend(
     Window { slices: 0, seed: 0 }
 }
 
-// The longest window from the first slice of a part on that some state covers, and its seed: lengths are tried from the longest whose bits alone can be met down. The equations of a slice are entered once; each length takes up the space that its slices left.
+// The longest window of a part whose states are quiet in so many slices at most, with entries for the spaces that are kept. The equations of a slice are entered once; each length takes up the space that its slices left.
+fn reach_with(
+    settings: Settings,
+    masks: &[u64],
+    stop: TestSlice,
+    pattern: Pattern,
+    table: &[u64],
+    clauses: &[u64],
+    closing: bool,
+    specified: &[u64],
+    bits: &[u64],
+    quiet: usize,
+    spaces: &mut [u64],
+) -> Window
+    requires ready { ⌜ Ready settings (now masks) stop pattern (now table) (now clauses) (suc (length (now specified))) ⌝ }
+    requires slices { ⌜ badSlices (length (now masks)) (now specified) (now bits) ≡ false ⌝ }
+    requires quiet { ⌜ Unquiet (length (now masks)) (now table) pattern (now clauses) (paired (now specified) (now bits)) (settings .cells) quiet ⌝ }
+    ensures { λ r. ⌜ r ≡ reachOf (machine settings (now (masks .entry))) stop closing (paired (now (specified .entry)) (now (bits .entry))) ⌝ }
+{
+    let met = grow(
+        settings.cells,
+        table,
+        masks.len(),
+        &specified[..quiet],
+        &bits[..quiet],
+        spaces,
+    );
+    descend(
+        settings,
+        masks,
+        stop,
+        pattern,
+        table,
+        clauses,
+        closing,
+        specified,
+        bits,
+        spaces,
+        met,
+    )
+}
+
+// The same with few entries.
+fn reach_short(
+    settings: Settings,
+    masks: &[u64],
+    stop: TestSlice,
+    pattern: Pattern,
+    table: &[u64],
+    clauses: &[u64],
+    closing: bool,
+    specified: &[u64],
+    bits: &[u64],
+    quiet: usize,
+) -> Window
+    requires ready { ⌜ Ready settings (now masks) stop pattern (now table) (now clauses) (suc (length (now specified))) ⌝ }
+    requires slices { ⌜ badSlices (length (now masks)) (now specified) (now bits) ≡ false ⌝ }
+    requires quiet { ⌜ Unquiet (length (now masks)) (now table) pattern (now clauses) (paired (now specified) (now bits)) (settings .cells) quiet ⌝ }
+    ensures { λ r. ⌜ r ≡ reachOf (machine settings (now (masks .entry))) stop closing (paired (now (specified .entry)) (now (bits .entry))) ⌝ }
+{
+    let mut spaces = [0u64; FEW_ENTRIES];
+    reach_with(
+        settings,
+        masks,
+        stop,
+        pattern,
+        table,
+        clauses,
+        closing,
+        specified,
+        bits,
+        quiet,
+        &mut spaces,
+    )
+}
+
+// The same with entries for every length.
+fn reach_long(
+    settings: Settings,
+    masks: &[u64],
+    stop: TestSlice,
+    pattern: Pattern,
+    table: &[u64],
+    clauses: &[u64],
+    closing: bool,
+    specified: &[u64],
+    bits: &[u64],
+    quiet: usize,
+) -> Window
+    requires ready { ⌜ Ready settings (now masks) stop pattern (now table) (now clauses) (suc (length (now specified))) ⌝ }
+    requires slices { ⌜ badSlices (length (now masks)) (now specified) (now bits) ≡ false ⌝ }
+    requires quiet { ⌜ Unquiet (length (now masks)) (now table) pattern (now clauses) (paired (now specified) (now bits)) (settings .cells) quiet ⌝ }
+    ensures { λ r. ⌜ r ≡ reachOf (machine settings (now (masks .entry))) stop closing (paired (now (specified .entry)) (now (bits .entry))) ⌝ }
+{
+    let mut spaces = [0u64; MOST_SPACES];
+    reach_with(
+        settings,
+        masks,
+        stop,
+        pattern,
+        table,
+        clauses,
+        closing,
+        specified,
+        bits,
+        quiet,
+        &mut spaces,
+    )
+}
+
+// The longest window from the first slice of a part on that some state covers, and its seed: lengths are tried from the longest that the equations allow down.
 // A window that takes the whole part closes with its stop where `closing` says so, a shorter one always.
 // An inner function: its callers show that the part is well-formed and that the tables are those of the register, the chains and the stop slice.
 pub fn reach(
@@ -480,19 +599,31 @@ pub fn reach(
     requires { ⌜ badSlices (length (now masks)) (now specified) (now bits) ≡ false ⌝ }
     ensures { λ r. ⌜ r ≡ reachOf (machine settings (now (masks .entry))) stop closing (paired (now (specified .entry)) (now (bits .entry))) ⌝ }
 {
-    let mut spaces = [0u64; KEPT_ENTRIES];
-    let cells = settings.cells;
     let chains = masks.len();
-    let quiet = most_quiet(cells, pattern, table, clauses, chains, specified, bits);
-    let met = grow(
-        cells,
+    let quiet = most_quiet(
+        settings.cells,
+        pattern,
         table,
+        clauses,
         chains,
-        &specified[..quiet],
-        &bits[..quiet],
-        &mut spaces,
+        specified,
+        bits,
     );
-    descend(
+    if quiet <= SHORT_PART {
+        return reach_short(
+            settings,
+            masks,
+            stop,
+            pattern,
+            table,
+            clauses,
+            closing,
+            specified,
+            bits,
+            quiet,
+        );
+    }
+    reach_long(
         settings,
         masks,
         stop,
@@ -502,8 +633,7 @@ pub fn reach(
         closing,
         specified,
         bits,
-        &spaces,
-        met,
+        quiet,
     )
 }
 

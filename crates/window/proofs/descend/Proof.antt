@@ -29,7 +29,7 @@ loop-holds : tie.Need-loop-holds Inv-loop μ-loop
 loop-holds c =
     let s = c .before .before .before .before .before .before in
     let a = s .args in
-    (omega arith, passed-start (a .settings) (a .masks .now) (a .stop) (a .pattern) (a .table .now) (a .clauses .now) (a .specified .now) (a .bits .now) (s .pre .0) (s .pre .1 .0) (a .closing) (a .most) (s .pre .1 .1 .1 .unquiet))
+    (omega arith, passed-start (a .settings) (a .masks .now) (a .stop) (a .pattern) (a .table .now) (a .clauses .now) (a .specified .now) (a .bits .now) (s .pre .0) (s .pre .1 .0) (a .closing) (a .most) (s .pre .1 .1 .unquiet))
 
 slice-aggregate-length-seed : tie.Need-slice-aggregate-length-seed Inv-loop μ-loop
 slice-aggregate-length-seed c =
@@ -57,8 +57,7 @@ length-seed-requires c κs =
         slices-take (length (a .masks .now)) (l .slices) (a .specified .now) (a .bits .now) (s .pre .1 .0),
         (
           omega arith,
-          s .pre .1 .1 .0,
-          λ q. held-part (length (a .masks .now)) (a .table .now) (a .specified .now) (a .bits .now) (a .settings .cells) (a .spaces .now) (l .slices) h (s .pre .1 .1 .1 .held (l .slices) (omega arith) (l .inv .0) (omega arith)),
+          λ q. held-part (length (a .masks .now)) (a .table .now) (a .specified .now) (a .bits .now) (a .settings .cells) (a .spaces .now) (l .slices) h (s .pre .1 .1 .held (l .slices) (omega arith) (l .inv .0) (omega arith)),
         ),
       ),
     )

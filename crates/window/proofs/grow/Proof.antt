@@ -4,7 +4,7 @@ use borrow.Author.Tests.{not-true, not-false}
 use borrow.Author.Needs.{needs}
 use native.Mathlib.Omega.{arith}
 use mathlib.Core.Path.{_≡_, sym, _∙_}
-use Prim.Native.Nat.{_-_, _≤_}
+use Prim.Native.Nat.{_-_, _/_, _≤_}
 use lib.ListN.{length, take}
 use Rattle.slices.specs.Slices.{paired}
 use Rattle.slices.proofs.Causes.{slices-equal}
@@ -17,10 +17,10 @@ use Rattle.window.proofs.grow.Statement.{statement}
 use Rattle.window.proofs.grow.Tie as tie
 
 abbrev Inv-loop : tie.InvT-loop
-Inv-loop cells table chains specified bits spaces₀ vectors₀ kept₀ slice₀ spaces vectors kept slice = (slice ≤ length specified) × (length vectors ≡ 64) × Growing chains table (paired specified bits) cells slice kept (take (kept .free) vectors) spaces
+Inv-loop cells table chains specified bits spaces₀ places vectors₀ kept₀ slice₀ spaces vectors kept slice = (slice ≤ length specified) × (length vectors ≡ 64) × (places ≡ length spaces₀ / 66) × Growing chains table (paired specified bits) cells (length spaces₀) slice kept (take (kept .free) vectors) spaces
 
 abbrev μ-loop : tie.MeasureT-loop
-μ-loop cells table chains specified bits spaces₀ vectors₀ kept₀ slice₀ spaces vectors kept slice = length specified - slice
+μ-loop cells table chains specified bits spaces₀ places vectors₀ kept₀ slice₀ spaces vectors kept slice = length specified - slice
 
 units-requires : tie.Need-units-requires Inv-loop μ-loop
 units-requires c κs = search needs
@@ -29,19 +29,19 @@ loop-holds : tie.Need-loop-holds Inv-loop μ-loop
 loop-holds c =
     let s = c .before .before .before .before .before in
     let a = s .args in
-    (omega arith, search needs, rw (c .units .ensures) (growing-start (a .chains) (a .table .now) (paired (a .specified .now) (a .bits .now)) (a .cells) (a .spaces .now) (s .pre .1 .1 .1)))
+    (omega arith, search needs, search needs, rw (c .units .ensures) (growing-start (a .chains) (a .table .now) (paired (a .specified .now) (a .bits .now)) (a .cells) (a .spaces .now)))
 
-mul-t12 : tie.Need-mul-t12 Inv-loop μ-loop
-mul-t12 c = search needs
+mul-t14 : tie.Need-mul-t14 Inv-loop μ-loop
+mul-t14 c = search needs
 
-shared-slice-read-t15 : tie.Need-shared-slice-read-t15 Inv-loop μ-loop
-shared-slice-read-t15 c = search needs
+shared-slice-read-t17 : tie.Need-shared-slice-read-t17 Inv-loop μ-loop
+shared-slice-read-t17 c = search needs
 
-mul-t16 : tie.Need-mul-t16 Inv-loop μ-loop
-mul-t16 c = search needs
+mul-t18 : tie.Need-mul-t18 Inv-loop μ-loop
+mul-t18 c = search needs
 
-shared-slice-read-t18 : tie.Need-shared-slice-read-t18 Inv-loop μ-loop
-shared-slice-read-t18 c =
+shared-slice-read-t20 : tie.Need-shared-slice-read-t20 Inv-loop μ-loop
+shared-slice-read-t20 c =
     let s = c .before .before .before .before .before .before .before .before .before in
     let a = s .args in
     omega (arith, slices-equal (a .chains) (a .specified .now) (a .bits .now) (s .pre .0), c .before .before .loop-test .taken)
@@ -60,7 +60,7 @@ meet-row-requires c κs =
     )
 
 same-length : tie.Need-same-length Inv-loop μ-loop
-same-length c = c .before .before .before .before .before .before .before .before .loop .inv .2 .long ∙ sym (c .before .before .before .before .before .before .before .before .before .before .before .before .before .before .pre .1 .1 .1)
+same-length c = c .before .before .before .before .before .before .before .before .loop .inv .3 .long
 
 returns : tie.Need-returns Inv-loop μ-loop
 returns c =
@@ -69,8 +69,8 @@ returns c =
     let l = c .before .before .before .before .before .before .before .before .loop in
     let m = c .before .before .before .meet-row in
     let w = paired (a .specified .now) (a .bits .now) in
-    let f = fitted-next (a .chains) (a .table .now) (a .specified .now) (a .bits .now) (s .pre .0) (allStates (a .cells)) (unitsOf (a .cells)) (l .slice) (l .kept) (take (l .kept .free) (l .vectors)) (m .result) (take (m .result .free) (m .last .0)) (c .before .before .before .before .before .before .before .loop-test .taken) (l .inv .2 .fitted) (m .ensures) in
-    grew-stop (a .chains) (a .table .now) (a .specified .now) (a .bits .now) (s .pre .0) (a .cells) (s .pre .1 .1 .0) (l .slice) (l .kept) (take (l .kept .free) (l .vectors)) (l .spaces) (m .result) (take (m .result .free) (m .last .0)) (c .before .before .before .before .before .before .before .loop-test .taken) (l .inv .2) f (not-true (m .result .some) (c .if1 .taken))
+    let f = fitted-next (a .chains) (a .table .now) (a .specified .now) (a .bits .now) (s .pre .0) (allStates (a .cells)) (unitsOf (a .cells)) (l .slice) (l .kept) (take (l .kept .free) (l .vectors)) (m .result) (take (m .result .free) (m .last .0)) (c .before .before .before .before .before .before .before .loop-test .taken) (l .inv .3 .fitted) (m .ensures) in
+    grew-stop (a .chains) (a .table .now) (a .specified .now) (a .bits .now) (s .pre .0) (a .cells) (s .pre .1 .1) (length (a .spaces .now)) (l .slice) (l .kept) (take (l .kept .free) (l .vectors)) (l .spaces) (m .result) (take (m .result .free) (m .last .0)) (c .before .before .before .before .before .before .before .loop-test .taken) (l .inv .3) f (not-true (m .result .some) (c .if1 .taken))
 
 mul-store : tie.Need-mul-store Inv-loop μ-loop
 mul-store c = search needs
@@ -79,7 +79,7 @@ slice-aggregate-store : tie.Need-slice-aggregate-store Inv-loop μ-loop
 slice-aggregate-store c = sym (c .before .before .before .before .before .before .meet-row .kept .0 ∙ c .before .before .before .before .before .before .before .before .before .before .before .loop .inv .1)
 
 store-requires : tie.Need-store-requires Inv-loop μ-loop
-store-requires c κs = (omega (arith, c .before .before .before .before .before .before .before .before .before .before .before .loop .inv .2 .long), c .before .before .before .before .before .before .meet-row .kept .0 ∙ c .before .before .before .before .before .before .before .before .before .before .before .loop .inv .1)
+store-requires c κs = (omega (arith, c .before .before .before .before .before .before .before .before .before .before .before .loop .inv .3 .long), c .before .before .before .before .before .before .meet-row .kept .0 ∙ c .before .before .before .before .before .before .before .before .before .before .before .loop .inv .1)
 
 add-slice : tie.Need-add-slice Inv-loop μ-loop
 add-slice c = search needs
@@ -94,25 +94,26 @@ loop-again c =
     let l = c .before .before .before .before .before .before .before .before .before .loop in
     let m = c .before .before .before .before .meet-row in
     let w = paired (a .specified .now) (a .bits .now) in
-    let f = fitted-next (a .chains) (a .table .now) (a .specified .now) (a .bits .now) (s .pre .0) (allStates (a .cells)) (unitsOf (a .cells)) (l .slice) (l .kept) (take (l .kept .free) (l .vectors)) (m .result) (take (m .result .free) (m .last .0)) (c .before .before .before .before .before .before .before .before .loop-test .taken) (l .inv .2 .fitted) (m .ensures) in
+    let f = fitted-next (a .chains) (a .table .now) (a .specified .now) (a .bits .now) (s .pre .0) (allStates (a .cells)) (unitsOf (a .cells)) (l .slice) (l .kept) (take (l .kept .free) (l .vectors)) (m .result) (take (m .result .free) (m .last .0)) (c .before .before .before .before .before .before .before .before .loop-test .taken) (l .inv .3 .fitted) (m .ensures) in
     let e = not-false (m .result .some) (c .before .if1 .left) in (
       omega arith,
       m .kept .0 ∙ l .inv .1,
+      l .inv .2,
       ⊎-elim
-          (λ v. rw (v .6) (growing-next (a .chains) (a .table .now) w (a .cells) (l .slice) (l .kept) (take (l .kept .free) (l .vectors)) (l .spaces) (l .inv .2) (m .result) (take (m .result .free) (m .last .0)) f e (v .3 .last .0) (v .3 .kept .0) (v .3 .ensures .0) (v .3 .ensures .1)))
-          (λ v. rw (v .1) (growing-beyond (a .chains) (a .table .now) w (a .cells) (l .slice) (l .kept) (take (l .kept .free) (l .vectors)) (l .spaces) (l .inv .2) (m .result) (take (m .result .free) (m .last .0)) f e (omega (arith, v .0 .left))))
+          (λ v. rw (v .6) (growing-next (a .chains) (a .table .now) w (a .cells) (length (a .spaces .now)) (l .slice) (l .kept) (take (l .kept .free) (l .vectors)) (l .spaces) (l .inv .3) (m .result) (take (m .result .free) (m .last .0)) f e (v .3 .last .0) (v .3 .kept .0) (v .3 .ensures .0) (v .3 .ensures .1)))
+          (λ v. rw (v .1) (growing-beyond (a .chains) (a .table .now) w (a .cells) (length (a .spaces .now)) (l .slice) (l .kept) (take (l .kept .free) (l .vectors)) (l .spaces) (l .inv .3) (m .result) (take (m .result .free) (m .last .0)) f e (omega (arith, v .0 .left))))
           (c .if2 .came),
     )
 
 same-length-2 : tie.Need-same-length-2 Inv-loop μ-loop
-same-length-2 c = c .before .loop .inv .2 .long ∙ sym (c .before .before .before .before .before .before .before .pre .1 .1 .1)
+same-length-2 c = c .before .loop .inv .3 .long
 
 returns-2 : tie.Need-returns-2 Inv-loop μ-loop
 returns-2 c =
     let s = c .before .before .before .before .before .before .before in
     let a = s .args in
     let l = c .before .loop in
-    grew-end (a .chains) (a .table .now) (a .specified .now) (a .bits .now) (s .pre .0) (a .cells) (s .pre .1 .1 .0) (l .slice) (l .kept) (take (l .kept .free) (l .vectors)) (l .spaces) (l .inv .0) (omega arith) (l .inv .2)
+    grew-end (a .chains) (a .table .now) (a .specified .now) (a .bits .now) (s .pre .0) (a .cells) (s .pre .1 .1) (length (a .spaces .now)) (l .slice) (l .kept) (take (l .kept .free) (l .vectors)) (l .spaces) (l .inv .0) (omega arith) (l .inv .3)
 
 pub grow-spec : {M : Type 1} → statement M
 grow-spec =
@@ -122,10 +123,10 @@ grow-spec =
     μ-loop
     units-requires
     loop-holds
-    mul-t12
-    shared-slice-read-t15
-    mul-t16
-    shared-slice-read-t18
+    mul-t14
+    shared-slice-read-t17
+    mul-t18
+    shared-slice-read-t20
     slice-aggregate-meet-row
     meet-row-requires
     same-length
