@@ -1,16 +1,14 @@
 // The test program: the proved library, the two programs, document 01's bench examples and document 004's figure 2, against the second program.
-// Prints a line for each case and ends with `N passed, M failed`. `compare figures SECONDS` prints a table of times instead.
+// Prints a line for each case and ends with `N passed, M failed`.
 // `compare texts N` runs the cases over texts alone, with N random texts for the library and N for the programs.
 
 mod bench;
 mod call;
 mod child;
-mod clock;
 mod damage;
 mod encodes;
 mod expands;
 mod figure;
-mod figures;
 mod inputs;
 mod known;
 mod largest;
@@ -96,10 +94,6 @@ fn main() -> ExitCode {
     let words: Vec<&str> = words.iter().map(String::as_str).collect();
     match words[..] {
         ["sample", root, file] => return sample(root, file),
-        ["figures", limit] => return figures::all(limit),
-        ["figures-one", chains, percent, program, limit] => {
-            return figures::one(chains, percent, program, limit)
-        }
         ["texts", count] => return texts_alone(count),
         _ => {}
     }

@@ -1,0 +1,75 @@
+// An answer: the seeds of a set, the one seed of a window, or a refusal. Exact columns must print the same.
+
+use std::fmt;
+
+#[derive(Debug, PartialEq)]
+pub enum Answer {
+    Seeds(Vec<u64>),
+    /// A refusal's number and value.
+    Refused(usize, usize),
+}
+
+impl Answer {
+    /// The answer for a set: its seeds, or refusal 8 with the slices of the longest start that can be cut.
+    pub fn of_set(told: Result<Vec<u64>, usize>) -> Answer {
+        match told {
+            Ok(seeds) => Answer::Seeds(seeds),
+            Err(slices) => Answer::Refused(8, slices),
+        }
+    }
+
+    /// The answer for a window: its seed, or refusal 7.
+    pub fn of_window(told: Option<u64>) -> Answer {
+        match told {
+            Some(seed) => Answer::Seeds(vec![seed]),
+            None => Answer::Refused(7, 0),
+        }
+    }
+
+    pub fn read(line: &str) -> Option<Answer> {
+        let mut words = line.split_whitespace();
+        let first = words.next()?;
+        if first == "refused" {
+            let mut number = || words.next()?.parse().ok();
+            return Some(Answer::Refused(number()?, number()?));
+        }
+        let seed = |word| u64::from_str_radix(word, 16).ok();
+        Some(Answer::Seeds(words.map(seed).collect::<Option<_>>()?))
+    }
+
+    /// The number of seeds; none for a refusal.
+    pub fn seeds(&self) -> Option<usize> {
+        match self {
+            Answer::Seeds(seeds) => Some(seeds.len()),
+            Answer::Refused(..) => None,
+        }
+    }
+
+    /// What a table of sets says of it.
+    pub fn of_sets_table(&self) -> String {
+        match self {
+            Answer::Seeds(seeds) => seeds.len().to_string(),
+            Answer::Refused(number, value) => format!("refused by {number} with {value}"),
+        }
+    }
+
+    /// What a table of windows says of it.
+    pub fn of_windows_table(&self) -> String {
+        match self {
+            Answer::Seeds(seeds) => seeds.first().map_or(String::new(), |s| format!("{s:x}")),
+            Answer::Refused(..) => "none".to_string(),
+        }
+    }
+}
+
+impl fmt::Display for Answer {
+    fn fmt(&self, to: &mut fmt::Formatter) -> fmt::Result {
+        match self {
+            Answer::Seeds(seeds) => {
+                write!(to, "seeds")?;
+                seeds.iter().try_for_each(|seed| write!(to, " {seed:x}"))
+            }
+            Answer::Refused(number, value) => write!(to, "refused {number} {value}"),
+        }
+    }
+}

@@ -1,0 +1,49 @@
+// The library's algorithm in Rust, without proofs and with every acceleration; each window is searched once. Its functions have the names of the library's.
+
+mod leaf;
+mod pattern;
+mod search;
+mod space;
+mod window;
+
+use window::{room, Machine};
+
+/// The most slices of a window.
+const LONGEST: usize = 256;
+
+/// The seeds of a set; or refusal 8's value, the slices of the longest start that can be cut.
+pub fn encode(
+    cells: usize,
+    taps: u64,
+    masks: &[u64],
+    stop: (u64, u64),
+    specified: &[u64],
+    bits: &[u64],
+) -> Result<Vec<u64>, usize> {
+    let most = specified.len().min(LONGEST);
+    let machine = Machine::new(cells, taps, masks, stop, most);
+    let mut room = room();
+    let mut seeds = Vec::new();
+    let mut start = 0;
+    while start < specified.len() {
+        let end = specified.len().min(start + LONGEST);
+        let reached = machine.reach(&specified[start..end], &bits[start..end], &mut room);
+        let (slices, seed) = reached.ok_or(start)?;
+        seeds.push(seed);
+        start += slices;
+    }
+    Ok(seeds)
+}
+
+/// The lowest state that covers a window.
+pub fn window(
+    cells: usize,
+    taps: u64,
+    masks: &[u64],
+    stop: (u64, u64),
+    specified: &[u64],
+    bits: &[u64],
+) -> Option<u64> {
+    let machine = Machine::new(cells, taps, masks, stop, specified.len());
+    machine.seed(specified, bits, &mut room())
+}

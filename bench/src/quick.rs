@@ -1,0 +1,136 @@
+// `bench quick`: a few small rows of each kind, measured once and compared. It writes nothing and ends with `N passed, M failed`.
+
+use crate::answer::Answer;
+use crate::case::Case;
+use crate::columns::Column;
+use crate::degenerate;
+use crate::measure::Limits;
+use crate::published;
+use crate::row::{row, Plan};
+use crate::sets::{full_slices, set, Kind};
+use crate::windows::{window, REGISTERS};
+use std::process::ExitCode;
+
+const LIMITS: Limits = Limits {
+    limit: 2.0,
+    least: 0.0,
+};
+
+/// The sets: chains, percentage, clustered, slices.
+const SETS: [(usize, u64, bool, usize); 6] = [
+    (20, 30, false, 128),
+    (20, 10, true, 128),
+    (32, 10, false, 256),
+    (64, 30, true, 64),
+    (64, 5, false, 256),
+    (64, 5, true, 256),
+];
+
+/// The windows of 24 cells: positions of the stop and length.
+const WINDOWS: [(u32, usize); 7] = [
+    (1, 12),
+    (1, 30),
+    (2, 20),
+    (2, 70),
+    (3, 60),
+    (4, 100),
+    (6, 256),
+];
+
+fn sets() -> Result<Vec<(String, Case)>, String> {
+    let mut cases = Vec::new();
+    for (chains, percent, clustered, slices) in SETS {
+        let kind = Kind {
+            chains,
+            percent,
+            clustered,
+            slices,
+        };
+        let name = format!("set of {chains} chains, {percent} %, {slices} slices");
+        cases.push((name, set(kind)?));
+    }
+    cases.push(("set of full slices".to_string(), full_slices()));
+    Ok(cases)
+}
+
+fn windows() -> Vec<(String, Case)> {
+    let mut cases = Vec::new();
+    for (positions, length) in WINDOWS {
+        let name = format!("window of {length} slices, {positions} positions");
+        cases.push((name, window(REGISTERS[0], positions, length)));
+    }
+    cases
+}
+
+fn degenerate() -> Result<Vec<(String, Case)>, String> {
+    let mut cases = Vec::new();
+    for register in degenerate::registers() {
+        for length in [16, 256] {
+            let name = format!("{}, window of {length} slices", register.name);
+            cases.push((name, degenerate::window(&register, 1, length)));
+        }
+        let name = format!("{}, set", register.name);
+        cases.push((name, degenerate::set(&register, 5)?));
+    }
+    Ok(cases)
+}
+
+/// Measures a case in all columns, and gives the number of those that answer; enumeration is left out where it takes long, on degenerate registers. It passes if two or more columns answer, all alike, and document 004's procedure has no fewer seeds.
+fn passes(case: &Case) -> Result<usize, String> {
+    let hard = case.cells == 64 && case.masks.len() <= 16;
+    let left = [Column::Enumeration];
+    let left: &[Column] = if hard { &left } else { &[] };
+    let plan = Plan {
+        columns: Column::here(case.window),
+        limits: LIMITS,
+        rounds: 1,
+    };
+    let (times, answer) = row(case, &plan, left)?;
+    if times.answered() < 2 {
+        return Err("fewer than two columns answer".to_string());
+    }
+    if case.window {
+        return Ok(times.answered());
+    }
+    let fewest = answer.as_ref().and_then(Answer::seeds);
+    match (published::seeds(case)?, fewest) {
+        (Ok(count), Some(fewest)) if count >= fewest => Ok(times.answered()),
+        (Err(_), _) => Ok(times.answered()),
+        (told, fewest) => Err(format!("004's procedure {told:?}, fewest {fewest:?}")),
+    }
+}
+
+/// Runs the cases; the numbers of those that pass and fail.
+fn cases(cases: Vec<(String, Case)>) -> (usize, usize) {
+    let (mut passed, mut failed) = (0, 0);
+    for (name, case) in cases {
+        match passes(&case) {
+            Ok(columns) => {
+                passed += 1;
+                println!("pass {name}: {columns} columns agree");
+            }
+            Err(why) => {
+                failed += 1;
+                println!("FAIL {name}: {why}");
+            }
+        }
+    }
+    (passed, failed)
+}
+
+pub fn run() -> ExitCode {
+    let all = sets().and_then(|sets| Ok([sets, windows(), degenerate()?].concat()));
+    let (passed, failed) = match all {
+        Ok(all) => cases(all),
+        Err(why) => {
+            println!("FAIL {why}");
+            (0, 1)
+        }
+    };
+    println!("{passed} passed, {failed} failed");
+    if failed == 0 && passed > 0 {
+        ExitCode::SUCCESS
+    } else {
+        ExitCode::FAILURE
+    }
+}

@@ -1,0 +1,96 @@
+// The whole run: all sections, the plots, and the file.
+
+use crate::bars;
+use crate::columns::Column;
+use crate::degenerate_section;
+use crate::fewest;
+use crate::measure::Limits;
+use crate::plots;
+use crate::report::Report;
+use crate::row::{Plan, SHORT};
+use crate::sets_section;
+use crate::table::digits;
+use crate::windows_section;
+use std::path::Path;
+use std::time::Instant;
+
+/// How long a short call is repeated, in seconds.
+const LEAST: f64 = 0.2;
+const ROUNDS: usize = 3;
+
+fn plan(windows: bool, limit: f64) -> Plan {
+    Plan {
+        columns: Column::here(windows),
+        limits: Limits {
+            limit,
+            least: LEAST,
+        },
+        rounds: ROUNDS,
+    }
+}
+
+/// The machine's processor, as Linux names it.
+fn processor() -> String {
+    let told = std::fs::read_to_string("/proc/cpuinfo").unwrap_or_default();
+    let line = told.lines().find(|line| line.starts_with("model name"));
+    let name = line.and_then(|line| line.split(": ").nth(1));
+    name.unwrap_or("a processor without a name").to_string()
+}
+
+fn opening(report: &mut Report, limit: f64) {
+    let cores = std::thread::available_parallelism().map_or(1, |cores| cores.get());
+    report.line("# Benchmarks");
+    report.paragraph("What `bench` printed in one run: the proved library beside other programs, on the same sets and windows. Columns:");
+    report.line("");
+    report.line("- ours: the proved library (`seeds_encode_set`, `seeds_window`);");
+    report.line("- fast: the same algorithm in Rust, without proofs, with every acceleration and each window searched once (`bench/src/fast.rs`);");
+    report.line("- second: the second program, whose search is its author's own;");
+    report.line("- enumeration: the states that satisfy the equations, tried in rising order (`bench/src/enumeration.rs`);");
+    report.line("- SAT: cryptominisat5, on single windows, where it is installed;");
+    report.line("- first version: the library of an earlier commit, where FIRST_VERSION names a benchmark program that links it.");
+    report.paragraph(&format!("Times are CPU seconds of one call, each measured in a process of its own that is stopped after {limit} s. After one call that is not counted, a short call is repeated until {LEAST} s have passed. The columns of a row are measured by turns; of times below {SHORT} s the least of {ROUNDS} rounds is given. All columns are exact: those that end have the same seeds and refusals, or the run fails."));
+    report.paragraph(&format!("Processor: {}; {cores} cores.", processor()));
+}
+
+fn write(path: &Path, text: &str) -> Result<(), String> {
+    std::fs::write(path, text).map_err(|e| format!("{} is not written: {e}", path.display()))
+}
+
+pub fn run(limit: f64, folder: &str) -> Result<(), String> {
+    let begun = Instant::now();
+    let mut report = Report::new();
+    opening(&mut report, limit);
+    let sets = sets_section::section(&mut report, &plan(false, limit))?;
+    let windows = windows_section::section(&mut report, &plan(true, limit))?;
+    degenerate_section::section(&mut report, &plan(true, limit))?;
+    fewest::section(&mut report, &sets);
+    let folder = Path::new(folder);
+    report.paragraph("## Plots");
+    for (name, plot) in plots::all(&sets, &windows) {
+        report.paragraph(&format!("![{}]({name})", plot.title));
+        write(&folder.join(name), &plot.svg())?;
+    }
+    bars::section(&mut report, &sets, &windows);
+    let minutes = digits(begun.elapsed().as_secs_f64() / 60.0);
+    report.paragraph(&format!("The run took {minutes} minutes."));
+    write(&folder.join("benchmarks.md"), report.text())
+}
+
+/// One section alone, printed and not written.
+pub fn part(name: &str, limit: f64) -> Result<(), String> {
+    let report = &mut Report::new();
+    match name {
+        "sets" => {
+            let sets = sets_section::section(report, &plan(false, limit))?;
+            fewest::section(report, &sets);
+            bars::section(report, &sets, &[]);
+        }
+        "windows" => {
+            let windows = windows_section::section(report, &plan(true, limit))?;
+            bars::section(report, &[], &windows);
+        }
+        "degenerate" => degenerate_section::section(report, &plan(true, limit))?,
+        _ => return Err(format!("{name} is no section: sets, windows or degenerate")),
+    }
+    Ok(())
+}
