@@ -212,9 +212,13 @@ fn showing(words: &[u64], first: usize, columns: usize, group: usize) -> u64
     requires { ⌜ (2 ≤ columns) × (columns ≤ 64) × (first + columns * 2 ≤ length (now words)) × (group < 64) ⌝ }
     ensures { λ r. ⌜ ((i : ℕ) → i < 64 → digit r i ≡ 1 → AllMatched (now (words .entry)) first columns group i) ⌝ }
 {
-    let mut lanes = lanes_of(words, first, group) & lanes_of(words, first + 2, group);
-    let mut column: usize = 2;
-    let mut place = first + 4;
+    let two = lanes_of(words, first, group) & lanes_of(words, first + 2, group);
+    if columns == 2 {
+        return two;
+    }
+    let mut lanes = two & lanes_of(words, first + 4, group);
+    let mut column: usize = 3;
+    let mut place = first + 6;
     while column < columns {
         if lanes == 0 {
             return 0;
