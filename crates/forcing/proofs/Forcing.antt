@@ -20,13 +20,13 @@ use Rattle.bounded.proofs.Tests.{both, and-yes, clash, eq-or-not}
 use Rattle.gf2.specs.Words.{odd}
 use Rattle.gf2.proofs.Parity.{odd-lt}
 use Rattle.space.specs.declared.Space.{Space}
-use Rattle.space.specs.Space.{pivot, restricted, shifted, without, Rising}
+use Rattle.space.specs.Space.{pivot, restricted, shifted, without, Rising, Member}
 use Rattle.space.proofs.Members.{Among, among-is, is-among, among-lowest}
 use Rattle.space.proofs.Pivot.{no-pivot, without-same, without-shorter}
 use Rattle.space.proofs.Restricting.{restrict-sound, restrict-complete, restrict-rising}
 use Rattle.search.specs.declared.Pattern.{Pattern}
 use Rattle.search.specs.Clauses.{reads, row, shown}
-use Rattle.forcing.specs.Forcing.{across, column, forced, forcedVectors, left, Member, narrowed, together}
+use Rattle.forcing.specs.Forcing.{across, column, forced, forcedVectors, left, narrowed, together}
 use Rattle.forcing.specs.declared.Shows.{Shows}
 use Rattle.forcing.specs.declared.Shows.the-variants.{Always, Unless, Neither}
 use Rattle.forcing.proofs.Columns.{column-splits, column-reads, column-differs}

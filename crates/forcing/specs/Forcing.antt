@@ -4,16 +4,14 @@
 --     across masks bits x vs         how the space shows a row; bit j of `bits` is that of mask j
 --     narrowed h vs y, left h vs     the space y with the vectors vs, and its vectors, where the row may not be shown
 --     forced pattern table t vs y, forcedVectors ..     the same for row t of the table
---     Member y vs s                  s is a member of the space y with the vectors vs
 -- Of the variants of `Shows`: all members show the row (Always); they do unless the mask m reads b (Unless m b); neither of the two is known (Neither).
-use mathlib.Core.Path.{_≡_}
 use mathlib.Core.Bool.{true, false}
 use mathlib.Core.List.{List, [], _∷_}
 use Prim.Native.Nat.{ℕ, _-_, _/_, _%_}
 use lib.Dec.{eqb, ltb}
 use Rattle.gf2.specs.Words.{odd}
 use Rattle.space.specs.declared.Space.{Space}
-use Rattle.space.specs.Space.{among, pivot, restricted, without}
+use Rattle.space.specs.Space.{pivot, restricted, without}
 use Rattle.search.specs.declared.Pattern.{Pattern}
 use Rattle.search.specs.Clauses.{row}
 use Rattle.forcing.specs.declared.Shows.{Shows}
@@ -48,6 +46,3 @@ forced p table t vs y = narrowed (across (row (p .columns) table t) (p .bits) (y
 
 unfoldable pub forcedVectors : Pattern → List ℕ → ℕ → List ℕ → Space → List ℕ
 forcedVectors p table t vs y = left (across (row (p .columns) table t) (p .bits) (y .lowest) vs) vs
-
-abbrev pub Member : Space → List ℕ → ℕ → Type 0
-Member y vs s = (y .some ≡ true) × (among (y .lowest) vs s ≡ true)

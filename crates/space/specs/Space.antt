@@ -7,6 +7,7 @@
 --     pivot mask vs        the first vector that is odd under the mask, or 0 where none is
 --     without mask vs      the vectors with the pivot taken out: it is added to each later one that is odd
 --     shifted mask b x p   the lowest member under an equation: x where it reads b under the mask, else x with the pivot p added
+--     Member y vs s        s is a member of the space y with the vectors vs, which has one
 --     restricted .. y      what is left of a space under the equation that the mask reads b
 --     ZeroAt h vs          each of the vectors holds 0 at cell h
 --     Rising x l vs        the highest cells of the vectors rise, from l on; at the highest cell of each, x and all other vectors hold 0. So x is the lowest member, and members rise as the vectors are counted through
@@ -50,6 +51,9 @@ without mask (v ∷ vs) = elim (eqb (odd v mask) 1) [ true ↦ map (added mask v
 
 unfoldable pub shifted : ℕ → ℕ → ℕ → ℕ → ℕ
 shifted mask b x p = elim (eqb (odd x mask) b) [ true ↦ x | false ↦ bitXor x p ]
+
+abbrev pub Member : Space → List ℕ → ℕ → Type 0
+Member y vs s = (y .some ≡ true) × (among (y .lowest) vs s ≡ true)
 
 -- The vectors stand in a list beside it. A space that is empty stays so.
 unfoldable pub restricted : ℕ → ℕ → List ℕ → Space → Space

@@ -17,12 +17,13 @@ use lib.ListN.{getD, length, take, drop}
 use lib.Seq.{take-all}
 use Rattle.bounded.proofs.Tests.{clash, fails, both, and-yes}
 use Rattle.space.specs.declared.Space.{Space}
+use Rattle.space.specs.Space.{Member}
 use Rattle.search.specs.Clauses.{row}
 use Rattle.slices.specs.declared.TestSlice.{TestSlice}
 use Rattle.slices.specs.Slices.{paired, badSlices}
 use Rattle.slices.proofs.Causes.{sliceAt}
 use Rattle.slices.proofs.Formed.{slices-length, slices-at}
-use Rattle.window.specs.Code.{meets, allMeet, closed, allowed, Member, Narrows}
+use Rattle.window.specs.Code.{meets, allMeet, closed, allowed, Narrows}
 use Rattle.window.proofs.Narrowing.{narrows-none, narrows-same, narrows-then}
 
 pub row-part : (c : ℕ) (table : List ℕ) (t : ℕ) → take (t * c + c - t * c) (drop (t * c) table) ≡ row c table t

@@ -14,7 +14,7 @@ use lib.ListN.{length, take}
 use borrow.Author.Tests.{not-true}
 use Rattle.bounded.proofs.Tests.{both, clash, fails}
 use Rattle.space.specs.declared.Space.{Space}
-use Rattle.space.specs.Space.{Rising}
+use Rattle.space.specs.Space.{Rising, Member}
 use Rattle.search.specs.declared.Pattern.{Pattern}
 use Rattle.search.specs.Clauses.{row, shown, clear}
 use Rattle.search.proofs.Reading.{clear-at, clear-front}
@@ -24,7 +24,7 @@ use Rattle.slices.proofs.Causes.{sliceAt}
 use Rattle.slices.proofs.Formed.{slices-length}
 use Rattle.forcing.specs.Forcing.{forced, forcedVectors}
 use Rattle.forcing.proofs.Forcing.{forced-sound, forced-complete, forced-rising}
-use Rattle.window.specs.Code.{meets, allMeet, allStates, unitsOf, Member, Narrows, Keeps, Unquiet}
+use Rattle.window.specs.Code.{meets, allMeet, allStates, unitsOf, Narrows, Keeps, Unquiet}
 use Rattle.window.proofs.Narrowing.{some-member}
 use Rattle.window.proofs.Fitting.{meet-front, meet-at}
 use Rattle.window.proofs.Seeds.{states-complete}

@@ -14,10 +14,10 @@ use borrow.Author.Tests.{eqb-true, eq-eqb}
 use Rattle.bounded.proofs.Tests.{both, and-yes}
 use Rattle.gf2.specs.Words.{odd}
 use Rattle.space.specs.declared.Space.{Space}
-use Rattle.space.specs.Space.{pivot, without, shifted, restricted}
+use Rattle.space.specs.Space.{pivot, without, shifted, restricted, Member}
 use Rattle.space.proofs.Members.{among-is, is-among, among-lowest}
 use Rattle.space.proofs.Restricting.{restrict-sound, restrict-complete, restrict-rising}
-use Rattle.window.specs.Code.{Member, Narrows}
+use Rattle.window.specs.Code.{Narrows}
 
 pub narrows-none : (y : Space) (vs : List ℕ) → Narrows (λ s. true) y vs y vs
 narrows-none y vs = record { sound = λ s m. (m, refl); complete = λ s m q. m; rising = λ r e. r }

@@ -23,7 +23,7 @@ use Rattle.register.proofs.Causes.{cells-within}
 use Rattle.slices.specs.declared.TestSlice.{TestSlice}
 use Rattle.slices.specs.Slices.{badSlice}
 use Rattle.space.specs.declared.Space.{Space}
-use Rattle.space.specs.Space.{among, units, Rising}
+use Rattle.space.specs.Space.{among, units, Rising, Member}
 use Rattle.space.proofs.Members.{among-is, is-among}
 use Rattle.space.proofs.AllStates.{units-take, units-sound, units-complete, units-rising}
 use Rattle.search.specs.declared.Pattern.{Pattern}
@@ -31,7 +31,7 @@ use Rattle.search.specs.Clauses.{clear}
 use Rattle.search.specs.Search.{foundOf, lowestClear}
 use Rattle.covering.specs.Covering.{covers, seedOf}
 use Rattle.window.specs.Ready.{Tabled, Ready}
-use Rattle.window.specs.Code.{allMeet, allowed, allStates, unitsOf, Member, Narrows, Keeps}
+use Rattle.window.specs.Code.{allMeet, allowed, allStates, unitsOf, Narrows, Keeps}
 use Rattle.window.proofs.Covering.{covers-tables}
 
 tabled-fewer : (taps m n : ℕ) (masks table : List ℕ) → m ≤ n → Tabled taps n masks table → Tabled taps m masks table

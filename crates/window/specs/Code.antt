@@ -1,7 +1,6 @@
 -- What only contracts of functions inside the crate cite.
 --     meets masks p b s       at each position that p specifies the mask reads the bit of b in the state s
 --     allMeet c table t w s   so it is of the slices of w, from row t of the table on
---     Member y vs s           s is a member of the space y with the vectors vs
 --     Narrows Q y vs z ws         the members of z are exactly those of y that pass Q, and the vectors rise still
 --     Keeps K y vs z ws           the members of z are members of y, all those that pass K among them, and the vectors rise still
 --     allStates cells, unitsOf cells     the space of all states, and its vectors
@@ -21,7 +20,7 @@ use lib.Dec.{eqb}
 use lib.ListN.{drop, getD, length, take}
 use Rattle.gf2.specs.Words.{odd}
 use Rattle.space.specs.declared.Space.{Space}
-use Rattle.space.specs.Space.{among, units, Rising}
+use Rattle.space.specs.Space.{units, Member, Rising}
 use Rattle.search.specs.Clauses.{row, clear}
 use Rattle.search.specs.declared.Pattern.{Pattern}
 use Rattle.slices.specs.declared.TestSlice.{TestSlice}
@@ -33,9 +32,6 @@ meets (m ∷ ms) p b s = elim (eqb (p % 2) 1) [ true ↦ eqb (odd s m) (b % 2) &
 unfoldable pub allMeet : ℕ → List ℕ → ℕ → List TestSlice → ℕ → Bool
 allMeet c table t [] s = true
 allMeet c table t (x ∷ w) s = meets (row c table t) (x .specified) (x .bits) s && allMeet c table (suc t) w s
-
-abbrev pub Member : Space → List ℕ → ℕ → Type 0
-Member y vs s = (y .some ≡ true) × (among (y .lowest) vs s ≡ true)
 
 pub record Narrows (Q : ℕ → Bool) (y : Space) (vs : List ℕ) (z : Space) (ws : List ℕ) : Type 0 where
   pub sound : (s : ℕ) → Member z ws s → Member y vs s × (Q s ≡ true)
