@@ -142,7 +142,7 @@ fn table(plan: &Plan) -> Table<'_> {
 pub fn head(report: &mut Report, plan: &Plan) {
     report.paragraph("## Sets");
     report.paragraph("64 cells with taps d800000000000000, masks and slices from a seeded generator, the stop slice by the steps and handed in to every column. In a spread set each bit is specified with the same chance. In a clustered one, runs of 8 slices with four times the density, at most 100 %, stand before 24 slices of x each. The last row has 300 full slices of 57 chains that one run of the register delivers, and a stop slice of six positions that the run does not show.");
-    report.paragraph("\"prototype\": an earlier prototype's times on other sets of the same kind, to be set beside \"fast\". Enumeration is left out (–) where it was stopped on a set of the same kind that is as dense or denser and no longer.");
+    report.paragraph("\"prototype\": an earlier prototype's times on other sets of the same kind, to be set beside \"fast\". Where fast takes more than 1.5 times as long: the prototype's set of 20 chains at 5 % had a stop of three positions, this one has two; and at 30 % most of the time is the entering of equations, which is done twice here, forced positions going into a space of their own. Enumeration is left out (–) where it was stopped on a set of the same kind that is as dense or denser and no longer.");
     report.line("");
     report.line(&table(plan).head());
 }
