@@ -10,6 +10,7 @@
 --     group-first, group-passed, group-dead    of a loop over the groups
 --     groups-few, groups-whole    there are at most 64 groups, and the groups of a leaf are all its members
 --     found-number, found-none    the first clear member is the lowest
+--     found-before                what was found before is as low as all that is left
 -- Assumes nothing.
 use mathlib.Core.Path.{_≡_, refl, sym, ap, ap₂, _∙_, subst}
 use mathlib.Core.Logic.{_⊎_, inl, inr, ⊎-elim}
@@ -23,7 +24,7 @@ use lib.Bits.{bitAnd, bitOr, bitXor, or-step, or-shr}
 use lib.ListN.{getD, length, take, drop, set, take-append-drop, length-drop, length-set}
 use lib.Pow.{pow-add, pow-mono}
 use lib.Seq.{getD-set-same, getD-set-other, take-all, take-take, take-append-add, length-take-le}
-use borrow.Author.Tests.{le-leb}
+use borrow.Author.Tests.{leb-true}
 use Rattle.bounded.proofs.Tests.{clash, eq-or-not, fails, lt-or-le}
 use Rattle.gf2.specs.Words.{digit, odd}
 use Rattle.gf2.proofs.Digits.{digit-lt, digit-and, digit-wide}
@@ -35,7 +36,7 @@ use Rattle.space.proofs.Numbers.{pick-split, pick-among, among-pick, pick-rises
 use Rattle.lanes.specs.Lanes.{readings}
 use Rattle.lanes.proofs.Lanes.{reading-lane, all-lanes}
 use Rattle.search.specs.Clauses.{row, reads, shown, clear}
-use Rattle.search.specs.Code.{lower}
+use Rattle.search.specs.Code.{lower, reached}
 use Rattle.search.specs.Search.{lowestClear}
 use Rattle.search.specs.Leaf.{LeafSized, Reads, Matched, AllMatched, RowFilled, Filled, Kills, FirstClear}
 use Rattle.search.specs.declared.Found.{Found}
@@ -288,6 +289,31 @@ module _ (p : Pattern) (table : List ℕ) (m x : ℕ) (vs : List ℕ) where
         let k = among-pick vs x s (q .0) in
         absurd (clash (clear p table m s) (q .1) (subst (λ (t : ℕ). clear p table m t ≡ false) (sym (k .2)) (c (k .0) (let b = k .1 in omega arith))));
   })
+
+  -- from number n on no member is lower than what was found before
+  pub found-before : (before : Found) (n s : ℕ) → Rising x 0 vs → s ≡ pick x vs n → reached before s ≡ true → NotClear n → before ≡ lower before (lowestClear p table m x vs)
+  found-before before n s rises e t none = finds-lowest-clear p table m x vs before before (record {
+    kept = inl refl;
+    all = λ u l h. reach before t u (above u (h .0) (h .1));
+  })
+    where
+      above : (u : ℕ) → Among x vs u → clear p table m u ≡ true → s ≤ u
+      above u a c =
+          let k = among-pick vs x u a in
+          ⊎-elim
+          (λ b. absurd (clash (clear p table m u) c (subst (λ (v : ℕ). clear p table m v ≡ false) (sym (k .2)) (none (k .0) b))))
+          (λ b. from-number k b)
+          (lt-or-le (k .0) n)
+        where
+          from-number : (k : (i : ℕ) × (i < 2 ^ length vs) × (u ≡ pick x vs i)) → n ≤ k .0 → s ≤ u
+          from-number k b = ⊎-elim
+              (λ q. let o : pick x vs (k .0) ≡ pick x vs n = ap (pick x vs) q in let z = k .2 in omega arith)
+              (λ ne. let o = pick-rises vs x 0 n (k .0) rises (omega arith) (k .1) in let z = k .2 in omega arith)
+              (eq-or-not (k .0) n)
+
+      reach : (f : Found) → reached f s ≡ true → (u : ℕ) → s ≤ u → Reached f u
+      reach (State b) q u h = omega (arith, leb-true b s q)
+      reach Nothing q u h = absurd (clash false q refl)
 
   pub found-number : (before r : Found) (n s : ℕ) → Rising x 0 vs → s < 2 ^ 64 → s ≡ pick x vs n → clear p table m s ≡ true → NotClear n → r ≡ lower before (State s) → r ≡ lower before (lowestClear p table m x vs)
   found-number before r n s rises w e c none q = finds-lowest-clear p table m x vs before r (finds-lower (Passes p table m x vs) before r s w (subst (λ (t : ℕ). Among x vs t) (sym e) (pick-among vs x n), c) above q)

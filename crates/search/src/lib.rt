@@ -289,7 +289,7 @@ fn lower_of(before: Found, state: u64) -> Found
     }
 }
 
-// The groups of a leaf in rising order: 64 members at a time are sifted by the words, and those that are left are tried one by one.
+// The groups of a leaf in rising order: 64 members at a time are sifted by the words, and those that are left are tried one by one, up to what was found before.
 fn sift(
     pattern: Pattern,
     table: &[u64],
@@ -313,6 +313,9 @@ fn sift(
     while group < groups {
         let dead = dead_lanes(words, columns, count, group);
         if dead != lanes::ALL {
+            if reached(before, space::member(lowest, vectors, free, group * 64)) {
+                return before;
+            }
             let lane = clear_lane(pattern, table, rows, lowest, vectors, free, group, dead);
             if lane < 64 {
                 return lower_of(

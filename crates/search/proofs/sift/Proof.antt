@@ -1,12 +1,13 @@
 -- `search::sift` meets its contract. Assumes nothing.
+use mathlib.Core.Path.{sym, _∙_}
 use mathlib.Core.Logic.{⊎-elim}
-use lib.Seq.{length-take-le}
-use Rattle.gf2.proofs.Digits.{one-shifted}
-use borrow.Author.Needs.{needs}
-use native.Mathlib.Omega.{arith}
 use Prim.Native.Nat.{_-_, _+_, _*_, _≤_, _<_}
-use lib.ListN.{length, take}
-use Rattle.search.proofs.Sifting.{NotClear, group-passed, group-dead, found-none, found-number, groups-few, groups-whole, dead-clear, group-first}
+use native.Mathlib.Omega.{arith}
+use lib.ListN.{take}
+use lib.Seq.{length-take-le}
+use borrow.Author.Needs.{needs}
+use Rattle.gf2.proofs.Digits.{one-shifted}
+use Rattle.search.proofs.Sifting.{NotClear, group-first, group-passed, group-dead, dead-clear, found-none, found-number, found-before, groups-few, groups-whole}
 use Rattle.search.proofs.sift.Statement.{statement}
 use Rattle.search.proofs.sift.Tie as tie
 
@@ -32,39 +33,57 @@ dead-lanes-requires c κs =
     let l = c .before .loop in
     let e = one-shifted (a .free - 6) (omega (arith, s .pre .0 .0 .few)) in
     let w = groups-few (a .free) (s .pre .0 .0 .few) in
-    let h : l .group < 64 = omega arith in
+    let h : l .group < 64 = omega (arith, c .loop-test .taken) in
     (s .pre .0 .0 .two, s .pre .0 .0 .word, s .pre .1 .1 .1 .within, h)
 
-clear-lane-requires : tie.Need-clear-lane-requires Inv-loop μ-loop
-clear-lane-requires c κs =
-    let s = c .before .before .before .before .before .before .before in
-    let a = s .args in
-    let l = c .before .before .before .loop in
-    let e = one-shifted (a .free - 6) (omega (arith, s .pre .0 .0 .few)) in
-    let w = groups-few (a .free) (s .pre .0 .0 .few) in
-    let h : l .group < 64 = omega arith in
-    (s .pre .1 .1 .0, (h, dead-clear (a .pattern) (a .table .now) (a .rows) (a .lowest) (take (a .free) (a .vectors .now)) (a .words .now) (a .count) (l .group) (c .before .dead-lanes .result) h (s .pre .1 .1 .1) (c .before .dead-lanes .ensures)))
-
 mul-member : tie.Need-mul-member Inv-loop μ-loop
-mul-member c = let i = c .before .before .before .before .before .loop .inv .0 in search needs
-
-add-member : tie.Need-add-member Inv-loop μ-loop
-add-member c = let i = c .before .before .before .before .before .loop .inv .0 in search needs
+mul-member c = let i = c .before .before .before .loop .inv .0 in search needs
 
 member-requires : tie.Need-member-requires Inv-loop μ-loop
 member-requires c κs = search needs
 
-lower-of-requires : tie.Need-lower-of-requires Inv-loop μ-loop
-lower-of-requires c κs = search needs
+reached-requires : tie.Need-reached-requires Inv-loop μ-loop
+reached-requires c κs = search needs
 
 returns : tie.Need-returns Inv-loop μ-loop
 returns c =
-    let s = c .before .before .before .before .before .before .before .before .before .before .before in
+    let s = c .before .before .before .before .before .before .before .before .before .before in
     let a = s .args in
-    let l = c .before .before .before .before .before .before .before .loop in
+    let l = c .before .before .before .before .before .before .loop in
+    let m = c .before .before .member in
+    found-before (a .pattern) (a .table .now) (a .rows) (a .lowest) (take (a .free) (a .vectors .now)) (a .before) (l .group * 64) (m .result) (s .pre .1 .0) (m .ensures) (sym (c .before .reached .ensures) ∙ c .if2 .taken) (l .inv .1)
+
+clear-lane-requires : tie.Need-clear-lane-requires Inv-loop μ-loop
+clear-lane-requires c κs =
+    let s = c .before .before .before .before .before .before .before .before .before .before in
+    let a = s .args in
+    let l = c .before .before .before .before .before .before .loop in
+    let e = one-shifted (a .free - 6) (omega (arith, s .pre .0 .0 .few)) in
+    let w = groups-few (a .free) (s .pre .0 .0 .few) in
+    let h : l .group < 64 = omega (arith, c .before .before .before .before .before .loop-test .taken) in
+    (s .pre .1 .1 .0, (h, dead-clear (a .pattern) (a .table .now) (a .rows) (a .lowest) (take (a .free) (a .vectors .now)) (a .words .now) (a .count) (l .group) (c .before .before .before .before .dead-lanes .result) h (s .pre .1 .1 .1) (c .before .before .before .before .dead-lanes .ensures)))
+
+mul-member-2 : tie.Need-mul-member-2 Inv-loop μ-loop
+mul-member-2 c = let i = c .before .before .before .before .before .before .before .before .loop .inv .0 in search needs
+
+add-member : tie.Need-add-member Inv-loop μ-loop
+add-member c = let i = c .before .before .before .before .before .before .before .before .loop .inv .0 in search needs
+
+member-requires-2 : tie.Need-member-requires-2 Inv-loop μ-loop
+member-requires-2 c κs = search needs
+
+lower-of-requires : tie.Need-lower-of-requires Inv-loop μ-loop
+lower-of-requires c κs = search needs
+
+returns-2 : tie.Need-returns-2 Inv-loop μ-loop
+returns-2 c =
+    let s = c .before .before .before .before .before .before .before .before .before .before .before .before .before .before in
+    let a = s .args in
+    let l = c .before .before .before .before .before .before .before .before .before .before .loop in
     let k = c .before .before .before .clear-lane in
-    found-number (a .pattern) (a .table .now) (a .rows) (a .lowest) (take (a .free) (a .vectors .now)) (a .before) (c .lower-of .result) (l .group * 64 + k .result) (c .before .member .result) (s .pre .1 .0) (search needs) (c .before .member .ensures)
-    (rw (c .before .member .ensures) (k .ensures .here (c .before .before .if2 .taken)))
+    let m = c .before .member2 in
+    found-number (a .pattern) (a .table .now) (a .rows) (a .lowest) (take (a .free) (a .vectors .now)) (a .before) (c .lower-of .result) (l .group * 64 + k .result) (m .result) (s .pre .1 .0) (search needs) (m .ensures)
+    (rw (m .ensures) (k .ensures .here (c .before .before .if3 .taken)))
     (group-first (a .pattern) (a .table .now) (a .rows) (a .lowest) (take (a .free) (a .vectors .now)) (l .group) (k .result) (l .inv .1) (k .ensures)) (c .lower-of .ensures)
 
 add-group : tie.Need-add-group Inv-loop μ-loop
@@ -80,18 +99,18 @@ loop-again c =
     let l = c .before .before .before .loop in
     let e = one-shifted (a .free - 6) (omega (arith, s .pre .0 .0 .few)) in
     let w = groups-few (a .free) (s .pre .0 .0 .few) in
-    let h : l .group < 64 = omega arith in
+    let h : l .group < 64 = omega (arith, c .before .before .loop-test .taken) in
     let d = c .before .dead-lanes in (
       omega arith,
       ⊎-elim
-          (λ v. group-passed (a .pattern) (a .table .now) (a .rows) (a .lowest) (take (a .free) (a .vectors .now)) (l .group) (v .1 .result) (omega (arith, v .2 .left)) (l .inv .1) (v .1 .ensures))
+          (λ v. group-passed (a .pattern) (a .table .now) (a .rows) (a .lowest) (take (a .free) (a .vectors .now)) (l .group) (v .4 .result) (omega (arith, v .5 .left)) (l .inv .1) (v .4 .ensures))
           (λ v. group-dead (a .pattern) (a .table .now) (a .rows) (a .lowest) (take (a .free) (a .vectors .now)) (l .group) (d .result) (omega (arith, v .left)) (l .inv .1)
           (dead-clear (a .pattern) (a .table .now) (a .rows) (a .lowest) (take (a .free) (a .vectors .now)) (a .words .now) (a .count) (l .group) (d .result) h (s .pre .1 .1 .1) (d .ensures)))
           (c .if1 .came),
     )
 
-returns-2 : tie.Need-returns-2 Inv-loop μ-loop
-returns-2 c =
+returns-3 : tie.Need-returns-3 Inv-loop μ-loop
+returns-3 c =
     let s = c .before .before .before .before .before in
     let a = s .args in
     let l = c .before .loop in
@@ -109,13 +128,17 @@ sift-spec =
     shl-groups
     loop-holds
     dead-lanes-requires
-    clear-lane-requires
     mul-member
-    add-member
     member-requires
-    lower-of-requires
+    reached-requires
     returns
+    clear-lane-requires
+    mul-member-2
+    add-member
+    member-requires-2
+    lower-of-requires
+    returns-2
     add-group
     loop-less
     loop-again
-    returns-2)
+    returns-3)
