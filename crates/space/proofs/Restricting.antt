@@ -1,5 +1,6 @@
 -- A space restricted by an equation.
 --     shifted-same, shifted-other     the lowest member, by what the lowest member of the whole reads
+--     shifted-none, restricted-single, single-left     a space of one state is only read
 --     restricted-with, restricted-left     the answer of `restrict`, and its vectors read off the buffer
 --     restrict-sound, restrict-complete     the members are exactly those of the whole that read the wanted bit
 --     restrict-rising                       the vectors rise still
@@ -11,7 +12,7 @@ use Prim.Native.Nat.{ℕ, _<_}
 use native.Mathlib.Omega.{arith}
 use lib.Bits.{bitXor, xor-zero-r}
 use lib.Dec.{eqb}
-use lib.ListN.{length, take}
+use lib.ListN.{length, take, drop}
 use lib.Seq.{take-at}
 use borrow.Author.Tests.{eqb-true, eqb-false, eq-eqb, ne-eqb}
 use Rattle.gf2.specs.Words.{odd}
@@ -22,6 +23,24 @@ use Rattle.space.specs.declared.Space.{Space}
 use Rattle.space.specs.declared.Taken.{Taken}
 use Rattle.space.proofs.Members.{Among}
 use Rattle.space.proofs.Pivot.{no-pivot, kept-alike, alike-kept, pivot-moves, rising-kept, rising-moved, pivot-parity}
+
+pub shifted-none : (mask b x : ℕ) → shifted mask b x 0 ≡ x
+unfolding shifted
+shifted-none mask b x = go (eqb (odd x mask) b) refl
+  where
+    go : (t : Bool) → eqb (odd x mask) b ≡ t → shifted mask b x 0 ≡ x
+    go true e = rw (e, shifted)
+    go false e = rw (e, shifted) (xor-zero-r x)
+
+-- a space of one state is only read
+module _ (mask b : ℕ) (l : List ℕ) (y : Space) (single : y .free ≡ 0) where
+  pub restricted-single : (o : Bool) → o ≡ (y .some && eqb (odd (y .lowest) mask) b) → record { lowest = y .lowest; free = 0; some = o } ≡ restricted mask b (take (y .free) l) y
+  unfolding restricted pivot without
+  restricted-single o e = rw (single, shifted-none mask b (y .lowest), e)
+
+  pub single-left : l ≡ without mask (take (y .free) l) ++ drop (length (without mask (take (y .free) l))) l
+  unfolding without
+  single-left = rw single
 
 module _ (mask b x p : ℕ) where
   pub shifted-same : odd x mask ≡ b → shifted mask b x p ≡ x

@@ -132,11 +132,18 @@ fn shifted(mask: u64, wanted: u64, lowest: u64, pivot: u64) -> u64
     }
 }
 
-// The members whose parity under the mask is the wanted one.
+// The members whose parity under the mask is the wanted one. A single state is only read.
 pub fn restrict(vectors: &mut [u64], space: Space, mask: u64, wanted: u64) -> Space
     ensures answer { λ r. ⌜ r ≡ restricted mask wanted (take (space .free) (now (vectors .entry))) space ⌝ }
     ensures buffer { λ _. ⌜ now (vectors .exit) ≡ without mask (take (space .free) (now (vectors .entry))) ++ drop (length (without mask (take (space .free) (now (vectors .entry))))) (now (vectors .entry)) ⌝ }
 {
+    if space.free == 0 {
+        return Space {
+            lowest: space.lowest,
+            free: 0,
+            some: space.some && gf2::odd(space.lowest, mask) == wanted,
+        };
+    }
     let taken = take_out(vectors, space.free, mask);
     let lowest = shifted(mask, wanted, space.lowest, taken.pivot);
     Space {

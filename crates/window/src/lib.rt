@@ -172,6 +172,9 @@ fn force_rows(
     let mut row: usize = 0;
     while row < rows {
         kept = forcing::force_row(pattern, clauses, row, vectors, kept);
+        if !kept.some {
+            return kept;
+        }
         row += 1;
     }
     kept
