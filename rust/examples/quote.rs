@@ -1,0 +1,55 @@
+// Quotes a sheet: reads it from standard input, prints its number of seeds and its seed list, and expands the list again.
+// Then the same by numbers, for document 01's register R.
+
+use seeds::{encode_cubes, encode_sheet, expand, expand_list, Machine, Refusal, TestSlices};
+use std::io::{self, Read, Write};
+
+/// How many lines of a text begin with a key.
+fn lines(text: &[u8], key: &[u8]) -> usize {
+    let lines = text.split(|&byte| byte == b'\n');
+    lines.filter(|line| line.starts_with(key)).count()
+}
+
+/// Encodes and expands a sheet, and prints both.
+fn by_text(sheet: &[u8]) -> io::Result<()> {
+    let told = encode_sheet(sheet).and_then(|list| Ok((expand_list(&list)?, list)));
+    match told {
+        Ok((slices, list)) => {
+            println!("{} seeds", lines(&list, b"seed="));
+            io::stdout().write_all(&list)?;
+            io::stdout().write_all(&slices)
+        }
+        Err(refusal) => {
+            println!("{refusal}");
+            Ok(())
+        }
+    }
+}
+
+/// Encodes document 01's set by numbers: 10, x1, 1x, 1x; chain 1 is the lowest bit.
+fn by_numbers() -> Result<(), Refusal> {
+    let machine = Machine {
+        cells: 3,
+        taps: 6,
+        masks: &[1, 4],
+    };
+    let set = TestSlices {
+        specified: &[0b11, 0b10, 0b01, 0b01],
+        bits: &[0b01, 0b10, 0b01, 0b01],
+    };
+    let mut seeds = [0; 4];
+    let encoded = encode_cubes(machine, 2, set, &mut seeds)?;
+    let seeds = &seeds[..encoded.seeds];
+    println!("stop {:?}, seeds {seeds:?}", encoded.stop);
+    let mut slices = [0; 4];
+    let total = expand(machine, encoded.stop, 4, seeds, &mut slices)?;
+    println!("{total} slices {slices:?}");
+    Ok(())
+}
+
+fn main() -> Result<(), Box<dyn std::error::Error>> {
+    let mut sheet = Vec::new();
+    io::stdin().read_to_end(&mut sheet)?;
+    by_text(&sheet)?;
+    Ok(by_numbers()?)
+}

@@ -1,0 +1,133 @@
+// The stop slice of a set, the seed of a window and the fewest seeds of a set.
+// Document 01, "Stop slice steps" and "Covering and cutting".
+
+use crate::{raw, Machine, Refusal, TestSlice, TestSlices};
+
+/// An accepted set that came as cubes: its stop slice, and how many seeds were written.
+#[derive(Clone, Copy, Debug, PartialEq, Eq)]
+pub struct Encoded {
+    pub stop: TestSlice,
+    pub seeds: usize,
+}
+
+/// How many test slices have the stop's bit specified at each specified position of the stop; of two lists unequally long, the shorter counts.
+pub fn count_in(stop: TestSlice, set: TestSlices) -> usize {
+    unsafe {
+        raw::seeds_count_in(
+            stop.specified,
+            stop.bits,
+            set.specified.as_ptr(),
+            set.specified.len(),
+            set.bits.as_ptr(),
+            set.bits.len(),
+        )
+    }
+}
+
+/// The stop slice of a set. Causes 2, 3, 4, then 6.
+pub fn stop_slice(chains: usize, set: TestSlices) -> Result<TestSlice, Refusal> {
+    let told = unsafe {
+        raw::seeds_stop(
+            chains,
+            set.specified.as_ptr(),
+            set.specified.len(),
+            set.bits.as_ptr(),
+            set.bits.len(),
+        )
+    };
+    Refusal::unless_accepted(told.number, told.value)?;
+    Ok(TestSlice {
+        specified: told.specified,
+        bits: told.bits,
+    })
+}
+
+/// The lowest state that covers a window. Causes 1 to 5, then 7.
+pub fn window_seed(machine: Machine, stop: TestSlice, window: TestSlices) -> Result<u64, Refusal> {
+    let told = unsafe {
+        raw::seeds_window(
+            machine.cells,
+            machine.taps,
+            machine.masks.as_ptr(),
+            machine.masks.len(),
+            stop.specified,
+            stop.bits,
+            window.specified.as_ptr(),
+            window.specified.len(),
+            window.bits.as_ptr(),
+            window.bits.len(),
+        )
+    };
+    Refusal::unless_accepted(told.number, told.value)?;
+    Ok(told.seed)
+}
+
+/// The fewest seeds of a set with its stop slice, written into `out`; how many. Causes 1 to 5, then 8, then 9.
+/// As many entries as the set has slices are always enough.
+///
+/// The buffer is not one of the lists:
+/// ```compile_fail
+/// use seeds::{encode_set, Machine, TestSlice, TestSlices};
+/// let mut words = [1u64, 4];
+/// let machine = Machine { cells: 3, taps: 6, masks: &words };
+/// let stop = TestSlice { specified: 1, bits: 0 };
+/// let set = TestSlices { specified: &[1], bits: &[1] };
+/// let _ = encode_set(machine, stop, set, &mut words);
+/// ```
+pub fn encode_set(
+    machine: Machine,
+    stop: TestSlice,
+    set: TestSlices,
+    out: &mut [u64],
+) -> Result<usize, Refusal> {
+    let told = unsafe {
+        raw::seeds_encode_set(
+            machine.cells,
+            machine.taps,
+            machine.masks.as_ptr(),
+            machine.masks.len(),
+            stop.specified,
+            stop.bits,
+            set.specified.as_ptr(),
+            set.specified.len(),
+            set.bits.as_ptr(),
+            set.bits.len(),
+            out.as_mut_ptr(),
+            out.len(),
+        )
+    };
+    Refusal::unless_accepted(told.number, told.value)?;
+    Ok(told.value)
+}
+
+/// The stop slice of a set that comes as cubes of `depth` slices, and its fewest seeds, written into `out`. Causes 1 to 4, then 6, 8, then 9.
+pub fn encode_cubes(
+    machine: Machine,
+    depth: usize,
+    set: TestSlices,
+    out: &mut [u64],
+) -> Result<Encoded, Refusal> {
+    let told = unsafe {
+        raw::seeds_encode_cubes(
+            machine.cells,
+            machine.taps,
+            machine.masks.as_ptr(),
+            machine.masks.len(),
+            depth,
+            set.specified.as_ptr(),
+            set.specified.len(),
+            set.bits.as_ptr(),
+            set.bits.len(),
+            out.as_mut_ptr(),
+            out.len(),
+        )
+    };
+    Refusal::unless_accepted(told.number, told.value)?;
+    Ok(Encoded {
+        stop: TestSlice {
+            specified: told.specified,
+            bits: told.bits,
+        },
+        seeds: told.value,
+    })
+}

@@ -1,0 +1,57 @@
+// The safe wrapper of the proved library: each entry of crates/seeds/src/lib.rt as a function over slices, with a Result.
+// docs/library.md lists the entries with their answers, numbers and buffers. The words are those of document 01.
+
+//! Seeds for scan slices, from the proved library: the stop slice of a set, the fewest seeds that deliver it, and the
+//! slices of a seed list.
+//!
+//! No function panics, whatever it is given: unusable input gets a [`Refusal`], and a refusal changes no lent buffer.
+//! What the wrapper adds to the library is unproved, and is tested in `tests/`.
+
+mod checks;
+mod encoding;
+mod expanding;
+mod leaves;
+pub mod raw;
+mod refusal;
+mod texts;
+
+pub use checks::{check_cubes, check_list, check_set, check_stop, check_window};
+pub use encoding::{count_in, encode_cubes, encode_set, stop_slice, window_seed, Encoded};
+pub use expanding::expand;
+pub use leaves::{agrees, shows, slice, step};
+pub use refusal::Refusal;
+pub use texts::{encode_sheet, encode_text, expand_list, expand_text, Written, LONGEST_OUTPUT};
+
+#[cfg(not(all(target_arch = "x86_64", target_os = "linux")))]
+compile_error!("the static library is for x86-64 Linux");
+
+/// Most cells of a register.
+pub const MOST_CELLS: usize = 64;
+/// Most chains.
+pub const MOST_CHAINS: usize = 64;
+/// Most slices of a window, and the greatest depth.
+pub const LONGEST_WINDOW: usize = 256;
+/// Most slices of a set, and most seeds of a list.
+pub const MOST_SLICES: usize = 2048;
+
+/// A test slice or stop slice: its specified positions, and its bits there. Chain j has weight 2^(j-1).
+#[derive(Clone, Copy, Debug, Default, PartialEq, Eq)]
+pub struct TestSlice {
+    pub specified: u64,
+    pub bits: u64,
+}
+
+/// A list of test slices as two lists: the specified positions of each, and its bits there.
+#[derive(Clone, Copy, Debug)]
+pub struct TestSlices<'a> {
+    pub specified: &'a [u64],
+    pub bits: &'a [u64],
+}
+
+/// A register, by its number of cells and its taps, and the masks of its chains. Cell i has weight 2^i.
+#[derive(Clone, Copy, Debug)]
+pub struct Machine<'a> {
+    pub cells: usize,
+    pub taps: u64,
+    pub masks: &'a [u64],
+}

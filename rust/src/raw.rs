@@ -1,0 +1,190 @@
+// The foreign declarations of the library, as crates/seeds/src/lib.rt has them. A slice is a pointer and a length.
+// tests/declarations.rs holds them, and those of c/seeds.h, against that file.
+//
+// A pointer must not be null, also where its length is 0, and must be aligned. It must lead to as many entries as its
+// length says, and a buffer that is written must not overlap anything else that is handed in. Nothing checks this:
+// the functions of this package hand in Rust's slices, which are so.
+
+/// The answer of a call that writes into a lent buffer: number 0 with the entries written, or a refusal's number and value.
+#[repr(C)]
+#[derive(Clone, Copy, Debug, PartialEq, Eq)]
+pub struct Answer {
+    pub number: usize,
+    pub value: usize,
+}
+
+/// Number 0 with the stop slice; or a refusal's number and value, with a stop slice of 0 and 0.
+#[repr(C)]
+#[derive(Clone, Copy, Debug, PartialEq, Eq)]
+pub struct StopAnswer {
+    pub number: usize,
+    pub value: usize,
+    pub specified: u64,
+    pub bits: u64,
+}
+
+/// Number 0 with the seed of the window; or a refusal's number and value, with seed 0.
+#[repr(C)]
+#[derive(Clone, Copy, Debug, PartialEq, Eq)]
+pub struct SeedAnswer {
+    pub number: usize,
+    pub value: usize,
+    pub seed: u64,
+}
+
+/// Number 0 with the seeds written and the stop slice; or a refusal's number and value, with a stop slice of 0 and 0.
+#[repr(C)]
+#[derive(Clone, Copy, Debug, PartialEq, Eq)]
+pub struct CubesAnswer {
+    pub number: usize,
+    pub value: usize,
+    pub specified: u64,
+    pub bits: u64,
+}
+
+/// Number 0 with the bytes written and the seeds or slices in them; or a refusal's number and value, with no entries.
+#[repr(C)]
+#[derive(Clone, Copy, Debug, PartialEq, Eq)]
+pub struct TextAnswer {
+    pub number: usize,
+    pub value: usize,
+    pub entries: usize,
+}
+
+extern "C" {
+    pub fn seeds_step(cells: usize, taps: u64, state: u64) -> u64;
+    pub fn seeds_slice(masks: *const u64, masks_len: usize, state: u64) -> u64;
+    pub fn seeds_agrees(specified: u64, bits: u64, slice: u64) -> bool;
+    pub fn seeds_shows(stop_specified: u64, stop_bits: u64, slice: u64) -> bool;
+    pub fn seeds_check_window(
+        cells: usize,
+        taps: u64,
+        masks: *const u64,
+        masks_len: usize,
+        stop_specified: u64,
+        stop_bits: u64,
+        specified: *const u64,
+        specified_len: usize,
+        bits: *const u64,
+        bits_len: usize,
+    ) -> usize;
+    pub fn seeds_check_set(
+        cells: usize,
+        taps: u64,
+        masks: *const u64,
+        masks_len: usize,
+        stop_specified: u64,
+        stop_bits: u64,
+        specified: *const u64,
+        specified_len: usize,
+        bits: *const u64,
+        bits_len: usize,
+    ) -> usize;
+    pub fn seeds_check_cubes(
+        cells: usize,
+        taps: u64,
+        masks: *const u64,
+        masks_len: usize,
+        depth: usize,
+        specified: *const u64,
+        specified_len: usize,
+        bits: *const u64,
+        bits_len: usize,
+    ) -> usize;
+    pub fn seeds_check_stop(
+        chains: usize,
+        specified: *const u64,
+        specified_len: usize,
+        bits: *const u64,
+        bits_len: usize,
+    ) -> usize;
+    pub fn seeds_check_list(
+        cells: usize,
+        taps: u64,
+        masks: *const u64,
+        masks_len: usize,
+        stop_specified: u64,
+        stop_bits: u64,
+        slices: usize,
+        seeds: usize,
+    ) -> usize;
+    pub fn seeds_count_in(
+        stop_specified: u64,
+        stop_bits: u64,
+        specified: *const u64,
+        specified_len: usize,
+        bits: *const u64,
+        bits_len: usize,
+    ) -> usize;
+    pub fn seeds_stop(
+        chains: usize,
+        specified: *const u64,
+        specified_len: usize,
+        bits: *const u64,
+        bits_len: usize,
+    ) -> StopAnswer;
+    pub fn seeds_expand(
+        cells: usize,
+        taps: u64,
+        masks: *const u64,
+        masks_len: usize,
+        stop_specified: u64,
+        stop_bits: u64,
+        slices: usize,
+        seeds: *const u64,
+        seeds_len: usize,
+        out: *mut u64,
+        out_len: usize,
+    ) -> Answer;
+    pub fn seeds_window(
+        cells: usize,
+        taps: u64,
+        masks: *const u64,
+        masks_len: usize,
+        stop_specified: u64,
+        stop_bits: u64,
+        specified: *const u64,
+        specified_len: usize,
+        bits: *const u64,
+        bits_len: usize,
+    ) -> SeedAnswer;
+    pub fn seeds_encode_set(
+        cells: usize,
+        taps: u64,
+        masks: *const u64,
+        masks_len: usize,
+        stop_specified: u64,
+        stop_bits: u64,
+        specified: *const u64,
+        specified_len: usize,
+        bits: *const u64,
+        bits_len: usize,
+        out: *mut u64,
+        out_len: usize,
+    ) -> Answer;
+    pub fn seeds_encode_cubes(
+        cells: usize,
+        taps: u64,
+        masks: *const u64,
+        masks_len: usize,
+        depth: usize,
+        specified: *const u64,
+        specified_len: usize,
+        bits: *const u64,
+        bits_len: usize,
+        out: *mut u64,
+        out_len: usize,
+    ) -> CubesAnswer;
+    pub fn seeds_encode_text(
+        sheet: *const u8,
+        sheet_len: usize,
+        out: *mut u8,
+        out_len: usize,
+    ) -> TextAnswer;
+    pub fn seeds_expand_text(
+        list: *const u8,
+        list_len: usize,
+        out: *mut u8,
+        out_len: usize,
+    ) -> TextAnswer;
+}

@@ -1,0 +1,54 @@
+// The text calls: a sheet to its seed list, a seed list to its slice lines. Document 01, "Sheet and seed list".
+
+use crate::{raw, Refusal};
+
+/// Bytes of the longest text that a call writes: 2,048 slice lines of 64 chains.
+pub const LONGEST_OUTPUT: usize = 2048 * (b"slice=\n".len() + 64);
+
+/// An accepted text: the bytes written, and how many seeds or slices they say.
+#[derive(Clone, Copy, Debug, PartialEq, Eq)]
+pub struct Written {
+    pub bytes: usize,
+    pub entries: usize,
+}
+
+/// A text call's answer.
+fn written(told: raw::TextAnswer) -> Result<Written, Refusal> {
+    Refusal::unless_accepted(told.number, told.value)?;
+    Ok(Written {
+        bytes: told.value,
+        entries: told.entries,
+    })
+}
+
+/// The seed list of a sheet, written into `out`. The first refused line, then the checks over the whole, then 9 with the bytes needed.
+pub fn encode_text(sheet: &[u8], out: &mut [u8]) -> Result<Written, Refusal> {
+    written(unsafe {
+        raw::seeds_encode_text(sheet.as_ptr(), sheet.len(), out.as_mut_ptr(), out.len())
+    })
+}
+
+/// The slice lines of a seed list, written into `out`. Refused in the same order.
+pub fn expand_text(list: &[u8], out: &mut [u8]) -> Result<Written, Refusal> {
+    written(unsafe {
+        raw::seeds_expand_text(list.as_ptr(), list.len(), out.as_mut_ptr(), out.len())
+    })
+}
+
+/// The text that a call writes into a buffer that is always long enough.
+fn whole(call: impl FnOnce(&mut [u8]) -> Result<Written, Refusal>) -> Result<Vec<u8>, Refusal> {
+    let mut out = vec![0; LONGEST_OUTPUT];
+    let written = call(&mut out)?;
+    out.truncate(written.bytes);
+    Ok(out)
+}
+
+/// The seed list of a sheet.
+pub fn encode_sheet(sheet: &[u8]) -> Result<Vec<u8>, Refusal> {
+    whole(|out| encode_text(sheet, out))
+}
+
+/// The slice lines of a seed list.
+pub fn expand_list(list: &[u8]) -> Result<Vec<u8>, Refusal> {
+    whole(|out| expand_text(list, out))
+}
