@@ -1,0 +1,294 @@
+// The entries by numbers against the second program: the answers, and every entry of each lent buffer.
+// Document 01, "Refusal sheet". A check's number is the refusal by 1 to 5 that the second program's call gives.
+
+use crate::lent::{lend, room};
+use crate::parts::{weights, Bytes, Parts};
+use second::Refused;
+use seeds::raw::{Answer, CubesAnswer, SeedAnswer, StopAnswer};
+use seeds::{raw, Machine, TestSlice, TestSlices};
+
+/// The number and value of an answer, where `Ok` has the value of an accepted call.
+fn told(answer: Result<usize, Refused>) -> Answer {
+    match answer {
+        Ok(value) => Answer { number: 0, value },
+        Err(refused) => Answer {
+            number: refused.number as usize,
+            value: refused.value as usize,
+        },
+    }
+}
+
+/// The answer with a buffer of `room` entries to a call that writes `Ok` entries where there is space. Cause 9 comes last.
+fn short(answer: Result<usize, Refused>, room: usize) -> Answer {
+    match answer {
+        Ok(needed) if needed > room => Answer {
+            number: 9,
+            value: needed,
+        },
+        other => told(other),
+    }
+}
+
+/// The verdict of a check: the refusal's number where it is at most 5, otherwise 0.
+fn verdict(answer: Answer) -> Result<(), usize> {
+    match answer.number {
+        number @ 1..=5 => Err(number),
+        _ => Ok(()),
+    }
+}
+
+/// A word for a place of a lent buffer.
+fn entry(place: usize) -> u64 {
+    (place as u64 + 1).wrapping_mul(0x9e37_79b9_7f4a_7c15)
+}
+
+/// A call's parts in the wrapper's words.
+impl Parts {
+    fn machine(&self) -> Machine<'_> {
+        Machine {
+            cells: self.cells,
+            taps: self.taps,
+            masks: &self.masks,
+        }
+    }
+
+    fn stop(&self) -> TestSlice {
+        TestSlice {
+            specified: self.stop.0,
+            bits: self.stop.1,
+        }
+    }
+
+    fn set(&self) -> TestSlices<'_> {
+        TestSlices {
+            specified: &self.specified,
+            bits: &self.bits,
+        }
+    }
+}
+
+/// The register rule and the comparisons of slices. Outside what is lawful, where no refusal is given, document 01 says nothing:
+/// taps and state are cut to the cells, and the stop's bits to its positions.
+fn leaves(p: &Parts, word: u64) {
+    let held = weights(p.cells);
+    let (taps, state) = (p.taps & held, word & held);
+    let next = seeds::step(p.cells, taps, state);
+    assert_eq!(next, second::step(p.cells as u64, taps, state), "step");
+    let slice = seeds::slice(&p.masks, word);
+    assert_eq!(slice, second::slice(&p.masks, word), "slice");
+    let stop = TestSlice {
+        specified: p.stop.0,
+        bits: p.stop.0 & p.stop.1,
+    };
+    let theirs = second::agrees(stop.specified, stop.bits, slice);
+    assert_eq!(seeds::agrees(stop, slice), theirs, "agreeing");
+    let theirs = second::shows(stop.specified, stop.bits, slice);
+    assert_eq!(seeds::shows(stop, slice), theirs, "showing");
+    let pairs = p.specified.iter().zip(&p.bits);
+    let has = |&(&specified, &bits): &(&u64, &u64)| {
+        specified & stop.specified == stop.specified && bits & stop.specified == stop.bits
+    };
+    let count = pairs.filter(has).count();
+    assert_eq!(seeds::count_in(stop, p.set()), count, "slices in");
+}
+
+/// The stop slice and its check.
+fn stop(p: &Parts) {
+    let theirs = second::stop_slice(p.masks.len() as u64, &p.specified, &p.bits);
+    let (specified, bits) = theirs.unwrap_or((0, 0));
+    let Answer { number, value } = told(theirs.map(|_| 0));
+    let (chains, set) = (p.masks.len(), p.set());
+    let ours = unsafe {
+        raw::seeds_stop(
+            chains,
+            set.specified.as_ptr(),
+            set.specified.len(),
+            set.bits.as_ptr(),
+            set.bits.len(),
+        )
+    };
+    let known = StopAnswer {
+        number,
+        value,
+        specified,
+        bits,
+    };
+    assert_eq!(ours, known, "the stop slice");
+    let checked = seeds::check_stop(chains, set).map_err(|refusal| refusal.number);
+    assert_eq!(checked, verdict(Answer { number, value }), "the check");
+}
+
+/// The seed of a window and its check.
+fn window(p: &Parts) {
+    let (cells, stop, set) = (p.cells as u64, p.stop(), p.set());
+    let theirs = second::window_seed(
+        cells,
+        p.taps,
+        &p.masks,
+        stop.specified,
+        stop.bits,
+        set.specified,
+        set.bits,
+    );
+    let seed = theirs.unwrap_or(0);
+    let Answer { number, value } = told(theirs.map(|_| 0));
+    let ours = unsafe {
+        raw::seeds_window(
+            p.cells,
+            p.taps,
+            p.masks.as_ptr(),
+            p.masks.len(),
+            stop.specified,
+            stop.bits,
+            set.specified.as_ptr(),
+            set.specified.len(),
+            set.bits.as_ptr(),
+            set.bits.len(),
+        )
+    };
+    let known = SeedAnswer {
+        number,
+        value,
+        seed,
+    };
+    assert_eq!(ours, known, "the seed");
+    let checked = seeds::check_window(p.machine(), stop, set).map_err(|refusal| refusal.number);
+    assert_eq!(checked, verdict(Answer { number, value }), "the check");
+}
+
+/// The encoding of a set and its check.
+fn set(p: &Parts, choice: u8) {
+    let (cells, stop, set) = (p.cells as u64, p.stop(), p.set());
+    let mut seeds = vec![0; set.specified.len()];
+    let theirs = second::encode_set(
+        cells,
+        p.taps,
+        &p.masks,
+        stop.specified,
+        stop.bits,
+        set.specified,
+        set.bits,
+        &mut seeds,
+    );
+    let room = room(choice, theirs.unwrap_or(3));
+    let known = short(theirs, room);
+    let written = match known.number {
+        0 => &seeds[..known.value],
+        _ => &[],
+    };
+    let ours = lend(room, written, entry, |out| {
+        seeds::encode_set(p.machine(), stop, set, out)
+    });
+    assert_eq!(
+        ours.map_err(|r| (r.number, r.value)),
+        result(known),
+        "the set"
+    );
+    let checked = seeds::check_set(p.machine(), stop, set).map_err(|refusal| refusal.number);
+    assert_eq!(checked, verdict(told(theirs)), "the check");
+}
+
+/// An answer as the wrapper gives it.
+fn result(answer: Answer) -> Result<usize, (usize, usize)> {
+    match answer.number {
+        0 => Ok(answer.value),
+        number => Err((number, answer.value)),
+    }
+}
+
+/// The encoding of cubes and its check.
+fn cubes(p: &Parts, choice: u8) {
+    let (cells, set) = (p.cells as u64, p.set());
+    let mut seeds = vec![0; set.specified.len()];
+    let theirs = second::encode_cubes(
+        cells,
+        p.taps,
+        &p.masks,
+        p.depth as u64,
+        set.specified,
+        set.bits,
+        &mut seeds,
+    );
+    let count = theirs.map(|(_, _, count)| count);
+    let room = room(choice, count.unwrap_or(3));
+    let Answer { number, value } = short(count, room);
+    let (specified, bits, _) = match number {
+        0 => theirs.unwrap_or((0, 0, 0)),
+        _ => (0, 0, 0),
+    };
+    let written = if number == 0 { &seeds[..value] } else { &[] };
+    let ours = lend(room, written, entry, |out| unsafe {
+        raw::seeds_encode_cubes(
+            p.cells,
+            p.taps,
+            p.masks.as_ptr(),
+            p.masks.len(),
+            p.depth,
+            set.specified.as_ptr(),
+            set.specified.len(),
+            set.bits.as_ptr(),
+            set.bits.len(),
+            out.as_mut_ptr(),
+            out.len(),
+        )
+    });
+    let known = CubesAnswer {
+        number,
+        value,
+        specified,
+        bits,
+    };
+    assert_eq!(ours, known, "the cubes");
+    let checked = seeds::check_cubes(p.machine(), p.depth, set).map_err(|refusal| refusal.number);
+    assert_eq!(checked, verdict(told(count)), "the check");
+}
+
+/// The expanding of a list and its check.
+fn expanding(p: &Parts, choice: u8) {
+    let (cells, stop, total) = (p.cells as u64, p.stop(), p.slices as u64);
+    let mut slices = vec![0; p.slices.min(2048)];
+    let theirs = second::expand(
+        cells,
+        p.taps,
+        &p.masks,
+        stop.specified,
+        stop.bits,
+        total,
+        &p.seeds,
+        &mut slices,
+    );
+    let room = room(choice, theirs.unwrap_or(3));
+    let known = short(theirs, room);
+    let written = match known.number {
+        0 => &slices[..known.value],
+        _ => &[],
+    };
+    let ours = lend(room, written, entry, |out| {
+        seeds::expand(p.machine(), stop, p.slices, &p.seeds, out)
+    });
+    assert_eq!(
+        ours.map_err(|r| (r.number, r.value)),
+        result(known),
+        "the slices"
+    );
+    let checked = seeds::check_list(p.machine(), stop, p.slices, p.seeds.len());
+    let checked = checked.map_err(|refusal| refusal.number);
+    assert_eq!(checked, verdict(told(theirs)), "the check");
+}
+
+/// One input: which call, then its parts. The lists that are handed in must be as they were.
+pub fn run(data: &[u8], choice: u8) {
+    let mut bytes = Bytes(data);
+    let (call, word) = (bytes.byte(), bytes.word(8));
+    let parts = Parts::take(&mut bytes);
+    let before = format!("{parts:?}");
+    match call % 6 {
+        0 => window(&parts),
+        1 => set(&parts, choice),
+        2 => cubes(&parts, choice),
+        3 => expanding(&parts, choice),
+        4 => stop(&parts),
+        _ => leaves(&parts, word),
+    }
+    assert_eq!(format!("{parts:?}"), before, "what was handed in");
+}

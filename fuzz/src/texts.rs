@@ -1,0 +1,89 @@
+// The two text entries against the second program: the answer, every byte of the lent buffer, and the text itself.
+// Document 01, "Sheet and seed list" and "Refusal sheet".
+
+use crate::lent::{lend, room};
+use seeds::raw::{self, TextAnswer};
+
+/// A text entry of the library.
+type Entry = unsafe extern "C" fn(*const u8, usize, *mut u8, usize) -> TextAnswer;
+
+/// The most slice lines of a sheet with more than 20 cells: a search of all states has no limit of its own.
+const MOST_SLICES: usize = 40;
+
+/// How many lines of a text begin with a key.
+fn lines(text: &[u8], key: &[u8]) -> usize {
+    let lines = text.split_inclusive(|&byte| byte == b'\n');
+    lines.filter(|line| line.starts_with(key)).count()
+}
+
+/// The number of a line `key=number`, and the bytes behind it.
+fn number_line<'a>(key: &[u8], bytes: &'a [u8]) -> Option<(usize, &'a [u8])> {
+    let rest = bytes.strip_prefix(key)?;
+    let end = rest.iter().position(|&byte| byte == b'\n')?;
+    let number = std::str::from_utf8(&rest[..end]).ok()?.parse().ok()?;
+    Some((number, &rest[end + 1..]))
+}
+
+/// The refusal that a text of two lines is.
+fn refusal(printed: &[u8]) -> Option<(usize, usize)> {
+    let (number, rest) = number_line(b"refused=", printed)?;
+    let (value, rest) = number_line(b"at=", rest)?;
+    rest.is_empty().then_some((number, value))
+}
+
+/// The answer to a text for which the second program prints this, with a buffer of `room` bytes. Cause 9 comes last.
+fn expected(printed: &[u8], key: &[u8], room: usize) -> TextAnswer {
+    let needed = printed.len();
+    let (number, value, entries) = match refusal(printed) {
+        Some((number, value)) => (number, value, 0),
+        None if needed <= room => (0, needed, lines(printed, key)),
+        None => (9, needed, 0),
+    };
+    TextAnswer {
+        number,
+        value,
+        entries,
+    }
+}
+
+/// One text through an entry. Behind the text stand bytes that would change its answer if they were read.
+fn compare(entry: Entry, text: &[u8], printed: &[u8], key: &[u8], choice: u8) {
+    let lent = room(choice, printed.len());
+    let known = expected(printed, key, lent);
+    let written = if known.number == 0 { printed } else { &[] };
+    let mut input = text.to_vec();
+    input.extend_from_slice(b"\nslice=0\n");
+    let before = input.clone();
+    let answer = lend(
+        lent,
+        written,
+        |place| (place * 7 + 3) as u8,
+        |out| unsafe { entry(input.as_ptr(), text.len(), out.as_mut_ptr(), out.len()) },
+    );
+    assert_eq!(answer, known, "the answer");
+    assert_eq!(input, before, "the text");
+}
+
+/// Whether a sheet's search is short enough to be tried.
+fn searched(sheet: &[u8]) -> bool {
+    let cells = number_line(b"cells=", sheet).map_or(0, |(cells, _)| cells);
+    cells <= 20 || lines(sheet, b"slice=") <= MOST_SLICES
+}
+
+/// A sheet through the encoding entry; its list, if it is accepted, through the expanding entry.
+pub fn sheet(text: &[u8], choice: u8) {
+    if !searched(text) {
+        return;
+    }
+    let printed = second::encode_text(text);
+    compare(raw::seeds_encode_text, text, &printed, b"seed=", choice);
+    if refusal(&printed).is_none() {
+        list(&printed, choice);
+    }
+}
+
+/// A list through the expanding entry.
+pub fn list(text: &[u8], choice: u8) {
+    let printed = second::expand_text(text);
+    compare(raw::seeds_expand_text, text, &printed, b"slice=", choice);
+}
