@@ -69,7 +69,7 @@ pub unsafe extern "C" fn LLVMFuzzerCustomMutator(
 ) -> usize {
     let input = slice::from_raw_parts(data, size);
     let text = size > 2 && !matches!(Kind::of(input[0]), Kind::Numbers);
-    if !text || seed % 2 == 0 {
+    if !text || seed.is_multiple_of(2) {
         return LLVMFuzzerMutate(data, size, most);
     }
     let mut changed = input[..2].to_vec();

@@ -10,6 +10,11 @@ fn lines(text: &[u8], key: &[u8]) -> usize {
     lines.filter(|line| line.starts_with(key)).count()
 }
 
+/// Numbers, each behind a space.
+fn shown(numbers: &[u64]) -> String {
+    numbers.iter().map(|number| format!(" {number}")).collect()
+}
+
 /// Encodes and expands a sheet, and prints both.
 fn by_text(sheet: &[u8]) -> io::Result<()> {
     let told = encode_sheet(sheet).and_then(|list| Ok((expand_list(&list)?, list)));
@@ -40,10 +45,16 @@ fn by_numbers() -> Result<(), Refusal> {
     let mut seeds = [0; 4];
     let encoded = encode_cubes(machine, 2, set, &mut seeds)?;
     let seeds = &seeds[..encoded.seeds];
-    println!("stop {:?}, seeds {seeds:?}", encoded.stop);
+    let stop = encoded.stop;
+    println!(
+        "stop {} {}, seeds{}",
+        stop.specified,
+        stop.bits,
+        shown(seeds)
+    );
     let mut slices = [0; 4];
-    let total = expand(machine, encoded.stop, 4, seeds, &mut slices)?;
-    println!("{total} slices {slices:?}");
+    let total = expand(machine, stop, 4, seeds, &mut slices)?;
+    println!("{total} slices{}", shown(&slices[..total]));
     Ok(())
 }
 

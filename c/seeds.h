@@ -1,0 +1,120 @@
+/* The entries of the proved library for C and C++, as crates/seeds/src/lib.rt has them; docs/library.md says what each answers.
+ * Words are those of document 01. Link target/staticlib/libseeds.a, which `rt staticlib seeds` makes, on x86-64 Linux.
+ *
+ * A list is a pointer and its number of entries. The pointer must not be NULL, also where the number is 0, and must be
+ * aligned for its type; it must lead to that many entries, all of which have been written to before, also those of a buffer
+ * that is lent to be written; and such a buffer must not overlap anything else that is handed in. No function checks this.
+ * All else is checked: every call ends with an answer, and a refusal changes no entry of a lent buffer. A call needs about
+ * half a megabyte of stack. No function keeps anything between calls, so threads may call at the same time. */
+#ifndef SEEDS_H
+#define SEEDS_H
+
+#include <stdbool.h>
+#include <stddef.h>
+#include <stdint.h>
+
+#ifdef __cplusplus
+extern "C" {
+#endif
+
+/* A call that writes: number 0 and the entries written, or a refusal's number and value. */
+typedef struct {
+    size_t number;
+    size_t value;
+} seeds_answer;
+
+/* A stop slice: number 0 and the stop slice; or a refusal's number and value, with a stop slice of 0 and 0. */
+typedef struct {
+    size_t number;
+    size_t value;
+    uint64_t specified;
+    uint64_t bits;
+} seeds_stop_answer;
+
+/* The seed of a window: number 0 and the seed; or a refusal's number and value, with seed 0. */
+typedef struct {
+    size_t number;
+    size_t value;
+    uint64_t seed;
+} seeds_seed_answer;
+
+/* Cubes: number 0, the seeds written and the stop slice; or a refusal's number and value, with a stop slice of 0 and 0. */
+typedef struct {
+    size_t number;
+    size_t value;
+    uint64_t specified;
+    uint64_t bits;
+} seeds_cubes_answer;
+
+/* A text: number 0, the bytes written and the seeds or slices in them; or a refusal's number and value, with no entries. */
+typedef struct {
+    size_t number;
+    size_t value;
+    size_t entries;
+} seeds_text_answer;
+
+/* The register rule and the comparisons of slices. */
+uint64_t seeds_step(size_t cells, uint64_t taps, uint64_t state);
+uint64_t seeds_slice(const uint64_t *masks, size_t masks_len, uint64_t state);
+bool seeds_agrees(uint64_t specified, uint64_t bits, uint64_t slice);
+bool seeds_shows(uint64_t stop_specified, uint64_t stop_bits, uint64_t slice);
+
+/* The number of the first of causes 1 to 5 that refuses a call, or 0. */
+size_t seeds_check_window(size_t cells, uint64_t taps, const uint64_t *masks, size_t masks_len,
+                          uint64_t stop_specified, uint64_t stop_bits,
+                          const uint64_t *specified, size_t specified_len,
+                          const uint64_t *bits, size_t bits_len);
+size_t seeds_check_set(size_t cells, uint64_t taps, const uint64_t *masks, size_t masks_len,
+                       uint64_t stop_specified, uint64_t stop_bits,
+                       const uint64_t *specified, size_t specified_len,
+                       const uint64_t *bits, size_t bits_len);
+size_t seeds_check_cubes(size_t cells, uint64_t taps, const uint64_t *masks, size_t masks_len,
+                         size_t depth,
+                         const uint64_t *specified, size_t specified_len,
+                         const uint64_t *bits, size_t bits_len);
+size_t seeds_check_stop(size_t chains,
+                        const uint64_t *specified, size_t specified_len,
+                        const uint64_t *bits, size_t bits_len);
+size_t seeds_check_list(size_t cells, uint64_t taps, const uint64_t *masks, size_t masks_len,
+                        uint64_t stop_specified, uint64_t stop_bits,
+                        size_t slices, size_t seeds);
+
+/* The stop slice of a set, and how many of its slices are in under a stop slice. */
+size_t seeds_count_in(uint64_t stop_specified, uint64_t stop_bits,
+                      const uint64_t *specified, size_t specified_len,
+                      const uint64_t *bits, size_t bits_len);
+seeds_stop_answer seeds_stop(size_t chains,
+                             const uint64_t *specified, size_t specified_len,
+                             const uint64_t *bits, size_t bits_len);
+
+/* The slices of a seed list. */
+seeds_answer seeds_expand(size_t cells, uint64_t taps, const uint64_t *masks, size_t masks_len,
+                          uint64_t stop_specified, uint64_t stop_bits,
+                          size_t slices, const uint64_t *seeds, size_t seeds_len,
+                          uint64_t *out, size_t out_len);
+
+/* The lowest state that covers a window, and the fewest seeds of a set. */
+seeds_seed_answer seeds_window(size_t cells, uint64_t taps, const uint64_t *masks, size_t masks_len,
+                               uint64_t stop_specified, uint64_t stop_bits,
+                               const uint64_t *specified, size_t specified_len,
+                               const uint64_t *bits, size_t bits_len);
+seeds_answer seeds_encode_set(size_t cells, uint64_t taps, const uint64_t *masks, size_t masks_len,
+                              uint64_t stop_specified, uint64_t stop_bits,
+                              const uint64_t *specified, size_t specified_len,
+                              const uint64_t *bits, size_t bits_len,
+                              uint64_t *out, size_t out_len);
+seeds_cubes_answer seeds_encode_cubes(size_t cells, uint64_t taps, const uint64_t *masks, size_t masks_len,
+                                      size_t depth,
+                                      const uint64_t *specified, size_t specified_len,
+                                      const uint64_t *bits, size_t bits_len,
+                                      uint64_t *out, size_t out_len);
+
+/* The text of a sheet to its seed list, and of a seed list to its slice lines. */
+seeds_text_answer seeds_encode_text(const uint8_t *sheet, size_t sheet_len, uint8_t *out, size_t out_len);
+seeds_text_answer seeds_expand_text(const uint8_t *list, size_t list_len, uint8_t *out, size_t out_len);
+
+#ifdef __cplusplus
+}
+#endif
+
+#endif

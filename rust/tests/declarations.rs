@@ -1,0 +1,213 @@
+// The declarations of src/raw.rs and of c/seeds.h against the library's own source, crates/seeds/src/lib.rt: every struct and
+// every function, by name, order, parameters and types. A slice `x: &[T]` is there a pointer `x` and a number `x_len`.
+
+use std::fs;
+use std::path::Path;
+
+/// A name and its type, as the library's source has it.
+type Named = (String, String);
+
+/// A struct that passes to C, or a function that is exported.
+struct Item {
+    name: String,
+    parts: Vec<Named>,
+    result: String,
+}
+
+/// A file of the repository, without its comments and with single spaces.
+fn file(path: &str) -> String {
+    let path = Path::new(env!("CARGO_MANIFEST_DIR")).join("..").join(path);
+    let text = fs::read_to_string(&path).unwrap_or_else(|e| panic!("{}: {e}", path.display()));
+    let lines = text
+        .lines()
+        .map(|line| line.split("//").next().unwrap_or(""));
+    let text: String = lines.map(|line| format!("{line} ")).collect();
+    let mut kept = String::new();
+    let mut rest = text.as_str();
+    while let Some(start) = rest.find("/*") {
+        kept.push_str(&rest[..start]);
+        let end = rest[start..].find("*/").expect("a comment ends");
+        rest = &rest[start + end + 2..];
+    }
+    kept.push_str(rest);
+    kept.split_whitespace().collect::<Vec<_>>().join(" ")
+}
+
+/// What stands between two marks, and what follows.
+fn between<'a>(text: &'a str, open: char, close: char) -> (&'a str, &'a str) {
+    let start = text.find(open).expect("an opening mark") + 1;
+    let end = start + text[start..].find(close).expect("a closing mark");
+    (&text[start..end], &text[end + 1..])
+}
+
+/// `name: type` parts, parted by commas.
+fn parts(list: &str) -> Vec<Named> {
+    let parts = list.split(',').map(str::trim);
+    let parts = parts.filter(|part| !part.is_empty());
+    parts
+        .map(|part| {
+            let (name, kind) = part
+                .trim_start_matches("pub ")
+                .split_once(": ")
+                .expect("a type");
+            (name.to_string(), kind.to_string())
+        })
+        .collect()
+}
+
+/// The items of the library's source that follow a mark.
+fn items(source: &str, mark: &str, open: char, close: char) -> Vec<Item> {
+    let found = source.split(mark).skip(1);
+    found
+        .map(|text| {
+            let name = text[..text.find(open).expect("an opening mark")].trim();
+            let (list, rest) = between(text, open, close);
+            let result = rest.trim_start().strip_prefix("-> ");
+            let result = result.and_then(|rest| rest.split(' ').next());
+            Item {
+                name: name.to_string(),
+                parts: parts(list),
+                result: result.unwrap_or("").to_string(),
+            }
+        })
+        .collect()
+}
+
+fn structs() -> Vec<Item> {
+    items(
+        &file("crates/seeds/src/lib.rt"),
+        "#[repr(C)] pub struct ",
+        '{',
+        '}',
+    )
+}
+
+fn functions() -> Vec<Item> {
+    let mark = "#[no_mangle] pub extern \"C\" fn ";
+    items(&file("crates/seeds/src/lib.rt"), mark, '(', ')')
+}
+
+/// The element of a slice type, and whether it is lent to be written.
+fn slice_of(kind: &str) -> Option<(&str, bool)> {
+    let of = |start| {
+        kind.strip_prefix(start)
+            .and_then(|rest| rest.strip_suffix(']'))
+    };
+    of("&[")
+        .map(|e| (e, false))
+        .or(of("&mut [").map(|e| (e, true)))
+}
+
+/// A parameter in Rust.
+fn rust_part((name, kind): &Named) -> String {
+    match slice_of(kind) {
+        Some((element, true)) => format!("{name}: *mut {element}, {name}_len: usize"),
+        Some((element, false)) => format!("{name}: *const {element}, {name}_len: usize"),
+        None => format!("{name}: {kind}"),
+    }
+}
+
+/// A type in C.
+fn c_type(kind: &str) -> String {
+    match kind {
+        "usize" => "size_t".into(),
+        "u64" => "uint64_t".into(),
+        "u8" => "uint8_t".into(),
+        "bool" => "bool".into(),
+        name => format!("seeds_{}", snake(name)),
+    }
+}
+
+/// `StopAnswer` as `stop_answer`.
+fn snake(name: &str) -> String {
+    let mut all = String::new();
+    for letter in name.chars() {
+        if letter.is_uppercase() && !all.is_empty() {
+            all.push('_');
+        }
+        all.extend(letter.to_lowercase());
+    }
+    all
+}
+
+/// A parameter in C.
+fn c_part((name, kind): &Named) -> String {
+    match slice_of(kind) {
+        Some((element, true)) => format!("{} *{name}, size_t {name}_len", c_type(element)),
+        Some((element, false)) => format!("const {} *{name}, size_t {name}_len", c_type(element)),
+        None => format!("{} {name}", c_type(kind)),
+    }
+}
+
+fn joined(parts: &[Named], shown: fn(&Named) -> String) -> String {
+    parts.iter().map(shown).collect::<Vec<_>>().join(", ")
+}
+
+/// Without spaces and trailing commas, which layout puts in.
+fn bare(text: &str) -> String {
+    let text: String = text.split_whitespace().collect();
+    text.replace(",)", ")").replace(",}", "}")
+}
+
+/// The declarations stand in a file in order, and it has no others: as many as begin with the mark.
+fn stand_in(path: &str, mark: &str, declared: &[String]) {
+    let text = bare(&file(path));
+    let mut from = 0;
+    for declaration in declared {
+        let declaration = bare(declaration);
+        let at = text[from..].find(&declaration);
+        let at = at.unwrap_or_else(|| panic!("{path} has no {declaration} behind the others"));
+        from += at + declaration.len();
+    }
+    assert_eq!(text.matches(&bare(mark)).count(), declared.len(), "{mark}");
+}
+
+#[test]
+fn the_library_has_entries() {
+    assert_eq!((structs().len(), functions().len()), (5, 17));
+}
+
+#[test]
+fn rust_structs() {
+    let field = |(name, kind): &Named| format!("pub {name}: {kind}");
+    let shown = |item: &Item| {
+        format!(
+            "pub struct {} {{ {} }}",
+            item.name,
+            joined(&item.parts, field)
+        )
+    };
+    let all: Vec<String> = structs().iter().map(shown).collect();
+    stand_in("rust/src/raw.rs", "#[repr(C)]", &all);
+}
+
+#[test]
+fn rust_functions() {
+    let shown = |item: &Item| {
+        let parts = joined(&item.parts, rust_part);
+        format!("pub fn {}({parts}) -> {};", item.name, item.result)
+    };
+    let all: Vec<String> = functions().iter().map(shown).collect();
+    stand_in("rust/src/raw.rs", "pub fn ", &all);
+}
+
+#[test]
+fn c_structs() {
+    let shown = |item: &Item| {
+        let field = |(name, kind): &Named| format!("{} {name};", c_type(kind));
+        let fields: String = item.parts.iter().map(field).collect();
+        format!("typedef struct {{ {fields} }} seeds_{};", snake(&item.name))
+    };
+    let all: Vec<String> = structs().iter().map(shown).collect();
+    stand_in("c/seeds.h", "typedef struct", &all);
+}
+
+#[test]
+fn c_functions() {
+    let shown = |item: &Item| {
+        let parts = joined(&item.parts, c_part);
+        format!("{} {}({parts});", c_type(&item.result), item.name)
+    };
+    let all: Vec<String> = functions().iter().map(shown).collect();
+    stand_in("c/seeds.h", ");", &all);
+}
