@@ -1,7 +1,7 @@
 // The benchmark program: the proved library beside other programs and a SAT solver, on the same sets and windows in one run.
 // `bench [SECONDS] [FOLDER]` prints the tables and writes FOLDER/benchmarks.md with its plots; SECONDS limits the CPU time of each measurement.
 // `bench part NAME SECONDS` prints one section (sets, windows or degenerate) and writes nothing.
-// FIRST_VERSION may name the benchmark program of an earlier commit, built with SEEDS_LIBRARY: the folder of the static library that build.rs links.
+// FIRST_VERSION may name the benchmark program of an earlier commit, built with SEEDS_LIBRARY: the folder of the static library that rust/build.rs links.
 // `bench quick` runs a few small rows, writes nothing and ends with `N passed, M failed`.
 
 mod answer;

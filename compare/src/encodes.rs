@@ -5,7 +5,7 @@ use crate::bench;
 use crate::call::{refused, Call};
 use crate::inputs::{damage_set, fill, lawful, shaped, thin, turn};
 use crate::lent::lend;
-use crate::library::Answer;
+use crate::library::{Answer, Like};
 use crate::notes::{holding, note, Kind};
 use crate::random::Random;
 use crate::report::{same, Outcome};
@@ -77,7 +77,7 @@ fn compare_back(call: &Call, stop: (u64, u64), seeds: &[u64], seen: &mut Seen) -
     note_windows(&list, seen);
     let mut slices = vec![0; list.slices];
     let total = list.expanded(&mut slices);
-    same("the total", total, Answer::from(Ok(list.slices)))
+    same("the total", total, Answer::like(Ok(list.slices)))
         .map_err(|why| format!("{why} of the list {list:x?}"))?;
     for (place, &slice) in slices.iter().enumerate() {
         if !second::agrees(list.specified[place], list.bits[place], slice) {

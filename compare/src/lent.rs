@@ -1,5 +1,6 @@
 // A lent buffer: both programs get a copy of the same one, and every entry is compared, also those on its sides that are no part of it.
 
+use crate::library::Like;
 use crate::random::Random;
 use crate::report::same;
 use second::Refused;
@@ -17,7 +18,7 @@ pub fn lend<A, T>(
     theirs: impl FnOnce(&mut [u64]) -> Result<T, Refused>,
 ) -> Result<(Result<T, Refused>, Vec<u64>), String>
 where
-    A: From<Result<T, Refused>> + PartialEq + Debug,
+    A: Like<T> + PartialEq + Debug,
     T: Copy,
 {
     let lent: Vec<u64> = (0..room + 2 * MARGIN).map(|_| random.word()).collect();
@@ -25,7 +26,7 @@ where
     let buffer = MARGIN..MARGIN + room;
     let told = theirs(&mut right[buffer.clone()]);
     let answer = ours(&mut left[buffer.clone()]);
-    same("the answer", answer, A::from(told))?;
+    same("the answer", answer, A::like(told))?;
     if told.is_err() && right != lent {
         return Err("the second program writes on refusal".into());
     }

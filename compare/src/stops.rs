@@ -1,7 +1,7 @@
 // The library's stop slice steps against the second program's: the answers for whole and damaged sets, and the counts of the slices still in.
 
 use crate::inputs::damage_slice;
-use crate::library::{self, StopAnswer};
+use crate::library::{self, Like, StopAnswer};
 use crate::random::Random;
 use crate::report::{same, Outcome};
 use crate::seen::Seen;
@@ -144,7 +144,7 @@ fn compare(set: &Set, seen: &mut Seen) -> Outcome {
         note_steps(chains, &trace, seen);
     }
     let ours = library::stop(chains, specified, bits);
-    same("the stop slice", ours, StopAnswer::from(told))
+    same("the stop slice", ours, StopAnswer::like(told))
         .map_err(|why| format!("{why} of {set:x?}"))?;
     Ok(1)
 }

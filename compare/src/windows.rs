@@ -3,7 +3,7 @@
 use crate::bench;
 use crate::call::{refused, Call};
 use crate::inputs::{damage_set, lawful, searched, shaped, thin, turn};
-use crate::library::SeedAnswer;
+use crate::library::{Like, SeedAnswer};
 use crate::notes::{holding, note, Kind};
 use crate::random::Random;
 use crate::report::{same, Outcome};
@@ -19,7 +19,7 @@ fn compare(call: &Call, seen: &mut Seen) -> Outcome {
         seen.note("a seed with cell 63 set");
     }
     let ours = call.seed_of_window();
-    same("the seed", ours, SeedAnswer::from(told))
+    same("the seed", ours, SeedAnswer::like(told))
         .map_err(|why| format!("{why} of the window {call:x?}"))?;
     Ok(1)
 }
