@@ -1,6 +1,7 @@
 // The test program: the proved library, the two programs, document 01's bench examples and document 004's figure 2, against the second program.
 // Prints a line for each case and ends with `N passed, M failed`.
 // `compare texts N` runs the cases over texts alone, with N random texts for the library and N for the programs.
+// `compare load N` runs the load test with N sheets.
 
 mod bench;
 mod call;
@@ -16,6 +17,7 @@ mod leaves;
 mod lent;
 mod library;
 mod limits;
+mod load;
 mod marks;
 mod notes;
 mod order;
@@ -95,6 +97,7 @@ fn main() -> ExitCode {
     match words[..] {
         ["sample", root, file] => return sample(root, file),
         ["texts", count] => return texts_alone(count),
+        ["load", count] => return load::run(count),
         _ => {}
     }
     let mut report = Report::new();
