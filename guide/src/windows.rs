@@ -1,0 +1,85 @@
+// How each seed of a list runs to its stop slice over the test slices of its sheet. States and slices are the library's.
+
+use crate::text;
+use seeds::TestSlice;
+
+/// One slice of a seed: the state that it comes from, and the test slice, or at the end the stop slice, that it is held against.
+pub struct Moment {
+    pub state: u64,
+    pub slice: u64,
+    pub against: TestSlice,
+}
+
+/// A seed with its slices; the last of them shows the stop.
+pub struct Window {
+    pub seed: u64,
+    /// How many test slices stand before it.
+    pub start: usize,
+    pub moments: Vec<Moment>,
+}
+
+/// A sheet with its list, and how the list runs.
+pub struct Sheet {
+    pub cells: usize,
+    pub taps: u64,
+    pub masks: Vec<u64>,
+    pub stop: TestSlice,
+    pub windows: Vec<Window>,
+}
+
+impl Sheet {
+    /// The sheet that a text says, with the list that the library gives for it.
+    pub fn read(sheet: &str) -> Result<Sheet, String> {
+        let refused = |why: seeds::Refusal| format!("the sheet is refused: {why}");
+        let list = seeds::encode_sheet(sheet.as_bytes()).map_err(refused)?;
+        let list = String::from_utf8(list).map_err(|why| why.to_string())?;
+        let stops = text::values(&list, "stop");
+        let mut read = Sheet {
+            cells: text::number(sheet, "cells", 10)? as usize,
+            taps: text::number(sheet, "taps", 16)?,
+            masks: text::numbers(sheet, "chain", 16)?,
+            stop: text::slice(stops.first().ok_or("no stop line")?),
+            windows: Vec::new(),
+        };
+        let tests = text::values(sheet, "slice");
+        let tests: Vec<TestSlice> = tests.into_iter().map(text::slice).collect();
+        let mut start = 0;
+        for seed in text::numbers(&list, "seed", 16)? {
+            let window = read.window(seed, start, &tests)?;
+            start += window.moments.len() - 1;
+            read.windows.push(window);
+        }
+        if start != tests.len() {
+            return Err(format!("{start} of {} test slices", tests.len()));
+        }
+        Ok(read)
+    }
+
+    /// The window of a seed from a test slice on.
+    fn window(&self, seed: u64, start: usize, tests: &[TestSlice]) -> Result<Window, String> {
+        let mut moments = Vec::new();
+        let mut state = seed;
+        for &test in tests[start..].iter().chain([&self.stop]) {
+            let slice = seeds::slice(&self.masks, state);
+            let stops = seeds::shows(self.stop, slice);
+            let against = if stops { self.stop } else { test };
+            if !seeds::agrees(against, slice) {
+                break;
+            }
+            moments.push(Moment {
+                state,
+                slice,
+                against,
+            });
+            if stops {
+                return Ok(Window {
+                    seed,
+                    start,
+                    moments,
+                });
+            }
+            state = seeds::step(self.cells, self.taps, state);
+        }
+        Err(format!("the seed {seed:x} does not run to its stop slice"))
+    }
+}
