@@ -70,6 +70,13 @@ impl Files {
         BOTH.map(|program| self.of(program))
     }
 
+    /// A file that holds a text, to be read.
+    pub fn holding(&self, text: &Text) -> Result<File, String> {
+        let path = self.folder.join("input");
+        let file = fs::write(&path, &text.bytes).and_then(|()| File::open(&path));
+        file.map_err(|why| format!("{}: {why}", path.display()))
+    }
+
     /// Where a program may write.
     pub fn output(&self) -> PathBuf {
         self.folder.join("output")

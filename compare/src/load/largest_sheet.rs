@@ -1,6 +1,6 @@
 // Sheets as large as can be, 64 cells, 64 chains and 2,048 slices, and their lists through both programs: time, bytes and memory.
 
-use super::files::{Files, Largest};
+use super::files::Files;
 use super::found::Found;
 use super::programs::Programs;
 use super::running::{pipe_with_room, Running};
@@ -22,47 +22,46 @@ fn thinned(sheet: &Text, percent: u64) -> Text {
     Text::new(sheet.program, bytes)
 }
 
-/// One text: seconds and bytes.
-fn timed(programs: &Programs, text: &Text, found: &mut Found) -> Result<Vec<u8>, String> {
-    let known = text.told().printed;
-    let start = Instant::now();
-    programs.judge(text, &known)?;
-    let seconds = start.elapsed().as_secs_f64();
-    found.compared += 1;
-    found.say(format!(
-        "{}: {seconds:.3} s, {} bytes in, {} bytes out",
-        text.program.name(),
-        text.bytes.len(),
-        known.len()
-    ));
-    Ok(known)
-}
-
 /// The most resident memory of a program, read while it waits for a full pipe: all that is left to do is to write.
-fn resident(programs: &Programs, largest: &Largest) -> Result<String, String> {
+fn resident(programs: &Programs, files: &Files, text: &Text) -> Result<String, String> {
     let (_reader, writer) = pipe_with_room(0)?;
-    let program = programs.of(largest.text.program);
-    let running = Running::start(program, &[], largest.open()?.into(), writer.into())?;
+    let (program, input) = (programs.of(text.program), files.holding(text)?);
+    let running = Running::start(program, &[], input.into(), writer.into())?;
     running.sleeps()?;
     running.most_resident()
 }
 
-/// Largest sheets with all bits, one in ten and none, each with its list; then the memory for the first.
+/// One text: seconds, bytes and memory.
+fn timed(programs: &Programs, files: &Files, text: &Text) -> Result<(Vec<u8>, String), String> {
+    let known = text.told().printed;
+    let start = Instant::now();
+    programs.judge(text, &known)?;
+    let seconds = start.elapsed().as_secs_f64();
+    let most = resident(programs, files, text)?;
+    let figures = format!(
+        "{}: {seconds:.3} s, {} bytes in, {} bytes out, at most {most} resident",
+        text.program.name(),
+        text.bytes.len(),
+        known.len()
+    );
+    Ok((known, figures))
+}
+
+/// Largest sheets with all bits, one in ten and none, each with its list.
 pub fn answers(programs: &Programs, files: &Files) -> Result<Found, String> {
     let mut found = Found::default();
     let sheet = &files.of(Program::Encode).text;
     for percent in [100, 10, 0] {
-        found.say(format!("{percent} % of the bits specified:"));
-        let list = timed(programs, &thinned(sheet, percent), &mut found)?;
+        let (list, encoded) = timed(programs, files, &thinned(sheet, percent))?;
         if refusal(&list).is_some() {
             return Err(format!("the sheet with {percent} % is refused"));
         }
-        timed(programs, &Text::new(Program::Expand, list), &mut found)?;
-    }
-    for largest in files.both() {
-        let most = resident(programs, largest)?;
-        let name = largest.text.program.name();
-        found.say(format!("{name}: at most {most} resident"));
+        let list = Text::new(Program::Expand, list);
+        let (_, expanded) = timed(programs, files, &list)?;
+        found.compared += 2;
+        found.say(format!("{percent} % of the bits specified:"));
+        found.say(encoded);
+        found.say(expanded);
     }
     Ok(found)
 }
