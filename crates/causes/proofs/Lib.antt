@@ -1,2 +1,3 @@
--- The law of writing into a lent buffer.
+-- The laws of the refusal sheet and of writing into a lent buffer.
+pub mod Sheet
 pub mod Outcome

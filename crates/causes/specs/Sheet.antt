@@ -1,7 +1,8 @@
 -- The refusal sheet (document 01, "Refusal sheet"): the number of each cause, and what is returned beside it.
 --     lineOf number value     a line of the sheet
 --     refusalOf cause         the line of a cause
-use Prim.Native.Nat.{ℕ}
+--     OnSheet number          a number of the sheet: 1 to 14
+use Prim.Native.Nat.{ℕ, _≤_}
 use Rattle.causes.specs.declared.Cause.{Cause}
 use Rattle.causes.specs.declared.Cause.the-variants.{Register, Chains, Lengths, TestSlice, StopSlice, SlicesIn, NoSeed, NoCutting, NoSpace, SeedBeyond, SeedAtStop, SeedEndless, Line, Total}
 use Rattle.causes.specs.declared.Refusal.{Refusal}
@@ -24,3 +25,6 @@ refusalOf (SeedAtStop place) = lineOf 11 place
 refusalOf (SeedEndless place) = lineOf 12 place
 refusalOf (Line line) = lineOf 13 line
 refusalOf (Total found) = lineOf 14 found
+
+abbrev pub OnSheet : ℕ → Type 0
+OnSheet number = (1 ≤ number) × (number ≤ 14)

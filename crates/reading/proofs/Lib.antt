@@ -7,3 +7,4 @@ pub mod Accepting
 pub mod Counting
 pub mod Heads
 pub mod Enough
+pub mod Refusals

@@ -41,21 +41,11 @@ use Rattle.encoder.proofs.Cubes.{cubes-means}
 use Rattle.encoder.proofs.Seeds.{covering-cuts}
 use Rattle.lines.specs.declared.LineCause.{LineCause}
 use Rattle.lines.specs.declared.LineCause.the-variants as lineCause
-use Rattle.lines.specs.declared.Line.{Line}
-use Rattle.lines.specs.declared.Line.the-variants as lines
-use Rattle.reading.specs.Text.{Text, line, rest, split}
-use Rattle.reading.specs.Order.{start, isRow, saying, moved}
-use Rattle.reading.specs.Reading.{causeOf, refusedAt, takenOf, refusalOfLine, onward, endOf, reading, readingOf}
-use Rattle.reading.specs.declared.Entry.{Entry}
-use Rattle.reading.specs.declared.Kind.{Kind}
+use Rattle.reading.specs.Reading.{causeOf, refusedAt}
 use Rattle.reading.specs.declared.Kind.the-variants as kinds
-use Rattle.reading.specs.declared.Place.{Place}
-use Rattle.reading.specs.declared.Scanned.{Scanned}
-use Rattle.reading.specs.declared.Scanned.the-variants as scanned
-use Rattle.reading.specs.declared.Taken.{Taken}
-use Rattle.reading.specs.declared.Taken.the-variants.{Said, Nothing}
-use Rattle.reading.proofs.Ranging.{end-whole, end-early}
-use Rattle.text.specs.Replies.{Reply, refused, lent, listReply, slicesReply, encoded, expanded, sheetReply, seedListReply, concluded, encodeReply, expandReply}
+use Rattle.reading.proofs.Refusals.{reading-refused}
+use Rattle.text.specs.Replies.{lent, encoded, expanded, sheetReply, seedListReply, encodeReply, expandReply}
+use Rattle.text.proofs.Refusals.{concluded-refused, list-refused, slices-refused}
 use Rattle.roundtrip.specs.RoundTrip.{NotShort}
 use Rattle.roundtrip.proofs.Causes.{Other, other-number, judged-other, walk-other}
 
@@ -126,11 +116,6 @@ module _ (g : Settings) (masks : List ℕ) (depth : ℕ) (ps bs : List ℕ) wher
       by-verdict (verdict.Refused d) w = is d (ap (λ (x : CubesOutcome). x .answer) (cubes-means g masks ps bs lent depth .refused d w)) (judged-other _ d w)
       by-verdict verdict.WellFormed w = by-stop w (stopFor (length masks) (paired ps bs)) refl
 
-list-not-short : (g : Settings) (masks : List ℕ) (slices : ℕ) (buffer : List ℕ) (a : Encoded) → ((c : Cause) → a ≡ encodings.Refused c → Other c) → NotShort (listReply g masks slices buffer a)
-unfolding listReply
-list-not-short g masks slices buffer (encodings.Seeds stop n) f = tt
-list-not-short g masks slices buffer (encodings.Refused c) f = other-number c (f c refl)
-
 -- ---- expanding
 
 module _ (g : Settings) (masks : List ℕ) (stop : TestSlice) (n : ℕ) (seeds : List ℕ) where
@@ -157,11 +142,6 @@ module _ (g : Settings) (masks : List ℕ) (stop : TestSlice) (n : ℕ) (seeds :
       go (verdict.Refused d) w e = rw (← (written-is d c e)) (judged-other _ d w)
       go verdict.WellFormed w e = total-other (few w) (walk (machine g masks) (rules g stop) n 0 0 seeds) (λ d. walk-other (machine g masks) (rules g stop) n 0 0 seeds d) c e
 
-slices-not-short : (chains : ℕ) (buffer : List ℕ) (a : Written) → ((c : Cause) → a ≡ written.Refused c → Other c) → NotShort (slicesReply chains buffer a)
-unfolding slicesReply
-slices-not-short chains buffer (written.Count n) f = tt
-slices-not-short chains buffer (written.Refused c) f = other-number c (f c refl)
-
 -- ---- lines
 
 line-number : (c : LineCause) (n : ℕ) → refusedAt c n .number ≡ 9 → ⊥
@@ -172,45 +152,15 @@ line-number lineCause.Chains n e = omega arith
 line-number lineCause.Lengths n e = omega arith
 line-number lineCause.StopSlice n e = omega arith
 
-said-number : (l : Line) (n : ℕ) → refusalOfLine l n .number ≡ 9 → ⊥
-unfolding refusalOfLine
-said-number (lines.Number k v) n e = line-number lineCause.Form n e
-said-number (lines.Slice k s) n e = line-number lineCause.Form n e
-said-number (lines.Refused c) n e = line-number c n e
-
--- The end of a reading is a place, or a refusal that is not by 9.
-abbrev EndsWell : Scanned → Type 0
-EndsWell (scanned.Whole p) = Unit {0}
-EndsWell (scanned.Refused r) = r .number ≡ 9 → ⊥
-
-end-well : (p : Place) (n : ℕ) → EndsWell (endOf p n)
-end-well p n = go (isRow (p .due)) refl
-  where
-    go : (b : Bool) → isRow (p .due) ≡ b → EndsWell (endOf p n)
-    go true e = rw (end-whole p n e) tt
-    go false e = rw (end-early p n e) (line-number lineCause.Form n)
-
-reading-well : (kind : Kind) (t : Text) (p : Place) (n : ℕ) → EndsWell (reading kind p n t .end)
-unfolding reading
-reading-well kind (rest []) p n = end-well p n
-reading-well kind (rest (b ∷ o)) p n = line-number lineCause.Form n
-reading-well kind (line l t) p n = go (takenOf (saying p l)) (λ e. reading-well kind t (moved kind p (e .key) (e .first)) (n + 1))
-  where
-    go : (a : Taken) → ((e : Entry) → EndsWell (reading kind (moved kind p (e .key) (e .first)) (n + 1) t .end)) → EndsWell (onward a (λ e. reading kind (moved kind p (e .key) (e .first)) (n + 1) t) (scanned.Refused (refusalOfLine (saying p l) n)) .end)
-    go (Said e) ih = ih e
-    go Nothing ih = said-number (saying p l) n
-
-concluded-not-short : (end : Scanned) (r : Reply) → EndsWell end → NotShort r → NotShort (concluded end r)
-unfolding concluded
-concluded-not-short (scanned.Whole p) r w s = s
-concluded-not-short (scanned.Refused c) r w s = w
-
 -- ---- the two programs
 
+abbrev Not9 : ℕ → Type 0
+Not9 n = n ≡ 9 → ⊥
+
 pub encode-not-short : (s : List ℕ) → NotShort (encodeReply s)
-unfolding encodeReply sheetReply encoded readingOf
-encode-not-short s = concluded-not-short _ _ (reading-well kinds.Sheet (split s) start 1) (list-not-short _ _ _ _ _ (encode-other _ _ _ _ _))
+unfolding encodeReply sheetReply encoded
+encode-not-short s = concluded-refused Not9 _ _ (reading-refused Not9 line-number kinds.Sheet s) (list-refused Not9 _ _ _ _ _ (λ c e. other-number c (encode-other _ _ _ _ _ c e)))
 
 pub expand-not-short : (s : List ℕ) → NotShort (expandReply s)
-unfolding expandReply seedListReply expanded readingOf
-expand-not-short s = concluded-not-short _ _ (reading-well kinds.SeedList (split s) start 1) (slices-not-short _ _ _ (expand-other _ _ _ _ _))
+unfolding expandReply seedListReply expanded
+expand-not-short s = concluded-refused Not9 _ _ (reading-refused Not9 line-number kinds.SeedList s) (slices-refused Not9 _ _ _ (λ c e. other-number c (expand-other _ _ _ _ _ c e)))

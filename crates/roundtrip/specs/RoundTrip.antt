@@ -24,7 +24,7 @@ use Rattle.reading.specs.Said.{masksOf, rowsOf, rowBitsOf, numberFor}
 use Rattle.reading.specs.declared.Entry.{Entry}
 use Rattle.reading.specs.declared.Kind.the-variants as kinds
 use Rattle.writing.specs.Writing.{sliceLines, listText}
-use Rattle.text.specs.Replies.{Reply, text, refused, expandReply}
+use Rattle.text.specs.Replies.{Reply, RefusedBy, text, expandReply}
 
 abbrev pub sheetOf : List ℕ → List Entry
 sheetOf s = readingOf kinds.Sheet s .entries
@@ -50,5 +50,4 @@ pub record GivesBack (s list : List ℕ) : Type 0 where
   pub agree : (i : ℕ) (t : TestSlice) → i < length (rowsOf (sheetOf s)) → agrees (getD (setOf s) i t) (getD slices i 0) ≡ true
 
 abbrev pub NotShort : Reply → Type 0
-NotShort (text bs n) = Unit {0}
-NotShort (refused r) = r .number ≡ 9 → ⊥
+NotShort r = RefusedBy (λ n. n ≡ 9 → ⊥) r

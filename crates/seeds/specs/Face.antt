@@ -7,8 +7,11 @@
 --     seedAnswerOf seed             number 0 with the seed, or the number and value of the refusal, and seed 0
 --     cubesAnswerOf encoded         number 0 with the seeds written and the stop slice, or the number and value of the refusal, and no position
 --     textAnswerOf answer           number 0 with the bytes written and their seeds or slices, or the number and value of the refusal, and 0
+--     Numbered number               0, or a number of the refusal sheet
+use mathlib.Core.Path.{_≡_}
+use mathlib.Core.Logic.{_⊎_}
 use Prim.Native.Nat.{ℕ}
-use Rattle.causes.specs.Sheet.{refusalOf}
+use Rattle.causes.specs.Sheet.{refusalOf, OnSheet}
 use Rattle.register.specs.declared.Register.{Register}
 use Rattle.slices.specs.declared.TestSlice.{TestSlice}
 use Rattle.causes.specs.declared.Written.{Written}
@@ -58,3 +61,6 @@ cubesAnswerOf (encoded.Refused c) = record { number = refusalOf c .number; value
 abbrev pub textAnswerOf : textAnswer.Answer → TextAnswer
 textAnswerOf (texts.Text bytes entries) = record { number = 0; value = bytes; entries = entries }
 textAnswerOf (texts.Refused r) = record { number = r .number; value = r .value; entries = 0 }
+
+abbrev pub Numbered : ℕ → Type 0
+Numbered number = (number ≡ 0) ⊎ OnSheet number

@@ -3,3 +3,4 @@ pub mod Answering
 pub mod Read
 pub mod Concluding
 pub mod Space
+pub mod Refusals

@@ -1,5 +1,6 @@
 -- What the two programs print, from the bytes of standard input to those of standard output (document 01, "Sheet and seed list" and its refusal sheet).
 --     Reply                    the bytes of a text with the number of its seeds or slices, or a refusal
+--     RefusedBy P r            the reply r is a text, or a refusal whose number has P
 --     lent                     a buffer with an entry for each of the most seeds or slices
 --     listReply g masks slices buffer a      the reply to an encoding that answers a and leaves the buffer
 --     slicesReply chains buffer a            the reply to an expanding that answers a and leaves the buffer
@@ -38,6 +39,10 @@ use Rattle.writing.specs.Writing.{sliceLines, listText, refusedText}
 pub data Reply : Type 0 where
   text : List ℕ → ℕ → Reply
   refused : Refusal → Reply
+
+abbrev pub RefusedBy : (ℕ → Type 0) → Reply → Type 0
+RefusedBy P (text bs n) = Unit {0}
+RefusedBy P (refused r) = P (r .number)
 
 -- There is always space: a set has no more seeds than slices, and an accepted list as many slices as it says (proved in roundtrip, Space).
 abbrev pub lent : List ℕ

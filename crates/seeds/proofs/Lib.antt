@@ -1,0 +1,2 @@
+-- The numbers of the answers, and the proofs of the functions.
+pub mod Numbers

@@ -1,0 +1,61 @@
+-- The number of every answer is 0 or one of the refusal sheet, 1 to 14 (demand 1), whatever is handed in.
+-- Assumes nothing.
+use mathlib.Core.Path.{_≡_, refl}
+use mathlib.Core.Logic.{_⊎_, inl, inr}
+use mathlib.Core.List.{List}
+use Prim.Native.Nat.{ℕ}
+use Rattle.causes.specs.declared.Written.{Written}
+use Rattle.causes.specs.declared.Written.the-variants as written
+use Rattle.causes.specs.Outcome.{fill}
+use Rattle.causes.specs.Sheet.{OnSheet}
+use Rattle.causes.proofs.Sheet.{on-sheet}
+use Rattle.checks.specs.declared.Verdict.{Verdict}
+use Rattle.checks.specs.declared.Verdict.the-variants as verdict
+use Rattle.stop.specs.declared.Formed.{Formed}
+use Rattle.stop.specs.declared.Formed.the-variants as formed
+use Rattle.covering.specs.declared.Seed.{Seed}
+use Rattle.covering.specs.declared.Seed.the-variants as seed
+use Rattle.encoder.specs.declared.Encoded.{Encoded}
+use Rattle.encoder.specs.declared.Encoded.the-variants as encoded
+use Rattle.text.specs.Replies.{Reply, RefusedBy, text, refused, encodeReply, expandReply}
+use Rattle.text.specs.Calls.{answered, called, encodeCall, expandCall}
+use Rattle.text.proofs.Refusals.{encode-on-sheet, expand-on-sheet}
+use Rattle.seeds.specs.Face.{numberOf, answerOf, stopAnswerOf, seedAnswerOf, cubesAnswerOf, textAnswerOf, Numbered}
+
+pub check-numbered : (v : Verdict) → Numbered (numberOf v)
+check-numbered verdict.WellFormed = inl refl
+check-numbered (verdict.Refused c) = inr (on-sheet c)
+
+pub answer-numbered : (w : Written) → Numbered (answerOf w .number)
+answer-numbered (written.Count n) = inl refl
+answer-numbered (written.Refused c) = inr (on-sheet c)
+
+pub stop-numbered : (f : Formed) → Numbered (stopAnswerOf f .number)
+stop-numbered (formed.Stop stop) = inl refl
+stop-numbered (formed.Refused c) = inr (on-sheet c)
+
+pub seed-numbered : (s : Seed) → Numbered (seedAnswerOf s .number)
+seed-numbered (seed.Lowest s) = inl refl
+seed-numbered (seed.Refused c) = inr (on-sheet c)
+
+pub cubes-numbered : (e : Encoded) → Numbered (cubesAnswerOf e .number)
+cubes-numbered (encoded.Seeds stop n) = inl refl
+cubes-numbered (encoded.Refused c) = inr (on-sheet c)
+
+answered-numbered : (n : ℕ) (w : Written) → Numbered (textAnswerOf (answered n w) .number)
+unfolding answered
+answered-numbered n (written.Count k) = inl refl
+answered-numbered n (written.Refused c) = inr (on-sheet c)
+
+called-numbered : (r : Reply) (out : List ℕ) → RefusedBy OnSheet r → Numbered (textAnswerOf (called r out .answer) .number)
+unfolding called
+called-numbered (text bs n) out h = answered-numbered n (fill bs out .answer)
+called-numbered (refused r) out h = inr h
+
+pub encode-numbered : (s out : List ℕ) → Numbered (textAnswerOf (encodeCall s out .answer) .number)
+unfolding encodeCall
+encode-numbered s out = called-numbered (encodeReply s) out (encode-on-sheet s)
+
+pub expand-numbered : (s out : List ℕ) → Numbered (textAnswerOf (expandCall s out .answer) .number)
+unfolding expandCall
+expand-numbered s out = called-numbered (expandReply s) out (expand-on-sheet s)
