@@ -65,6 +65,16 @@ fn width(bits: usize) -> usize {
     bits.clamp(1, 64).div_ceil(8)
 }
 
+/// How many of so many slices are tried: a search has no limit of its own, and the second program's is slow where it meets
+/// many long windows. More than 2,048 slices are refused before any search.
+pub fn tried(cells: usize, slices: usize) -> usize {
+    let most = if cells <= 12 { 300 } else { 40 };
+    match slices {
+        2049.. => 2049,
+        _ => slices.min(most),
+    }
+}
+
 /// A number of cells: mostly few, so that a search is short.
 fn cells(bytes: &mut Bytes) -> usize {
     match bytes.byte() {
@@ -121,7 +131,7 @@ impl Parts {
     }
 }
 
-/// The test slices from the bytes that are left. Of a register of few cells they may be repeated, up to the limits of length.
+/// The test slices from the bytes that are left, repeated where a flag says so.
 fn lists(bytes: &mut Bytes, flags: u8, cells: usize, chains: usize) -> (Vec<u64>, Vec<u64>) {
     let times = match flags & REPEATED {
         0 => 1,
@@ -134,8 +144,7 @@ fn lists(bytes: &mut Bytes, flags: u8, cells: usize, chains: usize) -> (Vec<u64>
         specified.push(positions);
         bits.push(values);
     }
-    let most = if cells <= 10 { 2050 } else { 40 };
-    let count = specified.len().saturating_mul(times).min(most);
+    let count = tried(cells, specified.len().saturating_mul(times));
     specified = specified.iter().copied().cycle().take(count).collect();
     bits = bits.iter().copied().cycle().take(count).collect();
     if flags & ANY_LENGTHS != 0 {

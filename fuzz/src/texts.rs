@@ -2,13 +2,11 @@
 // Document 01, "Sheet and seed list" and "Refusal sheet".
 
 use crate::lent::{lend, room};
+use crate::parts::tried;
 use seeds::raw::{self, TextAnswer};
 
 /// A text entry of the library.
 type Entry = unsafe extern "C" fn(*const u8, usize, *mut u8, usize) -> TextAnswer;
-
-/// The most slice lines of a sheet with more than 20 cells: a search of all states has no limit of its own.
-const MOST_SLICES: usize = 40;
 
 /// How many lines of a text begin with a key.
 fn lines(text: &[u8], key: &[u8]) -> usize {
@@ -64,15 +62,11 @@ fn compare(entry: Entry, text: &[u8], printed: &[u8], key: &[u8], choice: u8) {
     assert_eq!(input, before, "the text");
 }
 
-/// Whether a sheet's search is short enough to be tried.
-fn searched(sheet: &[u8]) -> bool {
-    let cells = number_line(b"cells=", sheet).map_or(0, |(cells, _)| cells);
-    cells <= 20 || lines(sheet, b"slice=") <= MOST_SLICES
-}
-
 /// A sheet through the encoding entry; its list, if it is accepted, through the expanding entry.
 pub fn sheet(text: &[u8], choice: u8) {
-    if !searched(text) {
+    let cells = number_line(b"cells=", text).map_or(0, |(cells, _)| cells);
+    let slices = lines(text, b"slice=");
+    if tried(cells, slices) < slices.min(2049) {
         return;
     }
     let printed = second::encode_text(text);
