@@ -47,7 +47,7 @@ impl Paths {
         })
     }
 
-    fn of(&self, program: Program) -> &PathBuf {
+    pub fn of(&self, program: Program) -> &PathBuf {
         match program {
             Program::Encode => &self.encode,
             Program::Expand => &self.expand,

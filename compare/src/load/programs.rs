@@ -1,41 +1,25 @@
-// The two programs under load: where they stand, and what one prints for a text in a process of its own.
+// The two programs under load: what one prints for a text in a process of its own.
 
 use super::files::Largest;
 use crate::child::{run, Way};
+use crate::programs::Paths;
 use crate::report::same;
 use crate::text::{first_difference, shown, Program, Text};
 use std::ffi::OsStr;
-use std::path::{Path, PathBuf};
+use std::path::Path;
 
 pub const BOTH: [Program; 2] = [Program::Encode, Program::Expand];
 
-/// Where the two programs stand.
-pub struct Programs {
-    encode: PathBuf,
-    expand: PathBuf,
-}
-
-/// The program that an environment variable names.
-fn named(variable: &str) -> Result<PathBuf, String> {
-    match std::env::var_os(variable) {
-        Some(path) if !path.is_empty() => Ok(path.into()),
-        _ => Err(format!("{variable} is not set: it names the program")),
-    }
-}
+/// The two programs, by where they stand.
+pub struct Programs(Paths);
 
 impl Programs {
     pub fn find() -> Result<Programs, String> {
-        Ok(Programs {
-            encode: named("ENCODE_PROGRAM")?,
-            expand: named("EXPAND_PROGRAM")?,
-        })
+        Paths::find().map(Programs)
     }
 
     pub fn of(&self, program: Program) -> &Path {
-        match program {
-            Program::Encode => &self.encode,
-            Program::Expand => &self.expand,
-        }
+        self.0.of(program)
     }
 
     /// A program and the file of its largest text, as words of the shell.
