@@ -1,4 +1,4 @@
-// The library's algorithm in Rust, without proofs and with every acceleration; each window is searched once. Its functions have the names of the library's.
+// The library's algorithm in Rust, without proofs and with every acceleration; each window is searched once. Most of its functions have the names of the library's.
 
 mod leaf;
 mod pattern;

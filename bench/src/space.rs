@@ -1,4 +1,4 @@
-// The states that satisfy linear equations, and the masks that turn a chain's bit in a later slice into an equation on the seed.
+// The states that satisfy linear equations, and the masks that turn a chain's bit in a later slice into an equation on the seed. Enumeration, document 004's procedure and the SAT solver stand on it; `fast` has its own.
 
 use crate::case::Case;
 

@@ -1,4 +1,4 @@
--- Which of causes 1 to 5 hold for what each kind of call hands in. A call that lacks a part is not refused by its cause.
+-- Which of causes 1 to 5 hold for what each kind of call hands in (document 01, "Refusal sheet"). A call that lacks a part is not refused by its cause.
 --     stoppedFaults    slices with their stop slice, whose number is judged by the caller
 --     windowFaults     a window with its stop slice
 --     setFaults        a set with its stop slice

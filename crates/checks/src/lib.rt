@@ -1,4 +1,4 @@
-// The checks behind causes 1 to 5, for each kind of call, with the order of causes in one place.
+// The checks behind causes 1 to 5 (document 01, "Refusal sheet"), for each kind of call, with the order of causes in one place.
 use causes::Cause;
 use register::Settings;
 use slices::TestSlice;

@@ -1,4 +1,4 @@
--- How the windows of a set are placed, closed and stopped: what may differ from one call to another without a change of the definitions.
+-- How the windows of a set are placed, closed and stopped (document 01, "Covering and cutting"): what may differ from one call to another without a change of the definitions.
 --     Rules          limit: the most slices of a window; edges: places that no window crosses; live: the stop slice of a window that starts at a place; openEnd: the window that ends the set need not close with its stop
 --     rules g stop   document 01's rules under a call's settings: no edge, one stop slice, and every seed, the last included, ends in it
 use mathlib.Core.Bool.{Bool, false}

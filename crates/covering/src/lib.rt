@@ -1,4 +1,4 @@
-// Covering: which states deliver a window and stop after it, and which parts of a set are windows. Definitions and laws; the search is built over them.
+// Covering (document 01, "Covering and cutting"): which states deliver a window and stop after it, and which parts of a set are windows. Definitions and laws; the search is built over them.
 use causes::Cause;
 
 // The answer of the search for a single window's seed.

@@ -1,4 +1,4 @@
--- What the plan of a cutting means, and what the theorem asks of the test of a window.
+-- What the plan of a cutting means, and what the theorem asks of the test of a window (document 01, "Covering and cutting").
 --     Cuts ok a es b     a cutting whose windows pass the test ok
 --     Bounds ok n        a window goes forward and ends within the set
 --     Suffix ok          the rest of a window that passes, from any later place on, passes

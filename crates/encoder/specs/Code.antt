@@ -1,8 +1,8 @@
 -- What only contracts of functions inside the crate cite.
---     gathered g masks stop set     where the greedy windows lead, and how many they are
---     gatheredSeeds                 their seeds
---     CubesFormed g masks specified bits     cubes that are well-formed
+--     gatheredSeeds g masks stop set     the seeds of the greedy windows
+--     gathered g masks stop set     where these windows lead, and how many they are
 --     settled n r seeds out         the outcome of r for a set of n slices: the seeds, cause 8 with the place where it is stuck, or cause 9
+--     CubesFormed g masks specified bits     cubes that are well-formed
 use mathlib.Core.Path.{_≡_}
 use mathlib.Core.Bool.{true, false}
 use mathlib.Core.List.{List}

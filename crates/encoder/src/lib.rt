@@ -1,4 +1,4 @@
-// The encoding of a set: from its first slice on, the longest window that some state covers, and its seed.
+// The encoding of a set (document 01, "Covering and cutting"): from its first slice on, the longest window that some state covers, and its seed.
 use causes::Cause;
 use causes::Written;
 use checks::Verdict;

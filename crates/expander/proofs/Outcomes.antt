@@ -1,6 +1,7 @@
 -- The outcome of expanding, by what the walk over the seeds delivers.
 --     found-refused, found-other, found-short     the cause of a seed, 14, 9: every entry of the buffer is as it was
---     Found, found-whole                          the slices are written
+--     Found, found                                the slices that the seeds deliver
+--     found-whole                                 they are written
 --     call-refused, call-formed                   the whole call, by its checks
 --     call-ready, few-seeds                       a well-formed call fits words, and has at most 2,048 seeds
 -- Assumes nothing.

@@ -1,4 +1,4 @@
-// Words as vectors of bits: the parity of a word under a mask, and bits beyond a width.
+// Words as vectors of bits (document 01, "Register and chains"): the digits of a word, its parity under a mask, and bits beyond a width.
 ghost use mathlib.Core.Path.{_≡_};
 ghost use Rattle.gf2.specs.Words.{digit as digitOf, odd as oddOf, beyond as beyondOf};
 

@@ -1,4 +1,5 @@
--- A test that holds of two keys says that they are one (`same`).
+-- The test whether two keys are one (`same`).
+--     same-is, same-self     where it holds, they are; and it holds of a key and itself
 -- Assumes nothing.
 use mathlib.Core.Bool.{true}
 use mathlib.Core.Path.{_≡_, refl, sym, ap, _∙_}

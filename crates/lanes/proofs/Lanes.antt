@@ -5,7 +5,7 @@
 --     reading-lane        lane i of a reading is the parity of member number i
 --     table-digits        the words of the six digits of a number
 --     only-fits           a word times a bit fits
---     lanes-start, lanes-next     of a loop over the vectors
+--     Lanes, lanes-start, lanes-next     of a loop over the vectors
 -- Assumes nothing.
 use mathlib.Core.Path.{_≡_, refl, sym, ap, _∙_, subst}
 use mathlib.Core.Bool.{Bool, true, false, _&&_}

@@ -1,4 +1,8 @@
--- The number that digits say, digit by digit (`digits`): one digit more, a byte that is none, the end; that it stays within a word; and when a number is out of form (`number`).
+-- The number that digits say (`digits`), and when a number is out of form (`number`).
+--     digits-go, digits-none, digits-end     of a loop that goes up: one digit more, a byte that is none, and the end
+--     below-next, digits-fit                 the number so far is below a power of the base, and fits a word
+--     zero-leads, no-zero-leads              whether a 0 stands before other bytes
+--     number-length, number-zero, number-digits     a number, by its length and by a leading zero
 -- Assumes nothing.
 use mathlib.Core.Bool.{true, false}
 use mathlib.Core.Logic.{_⊎_, inl, inr}

@@ -1,4 +1,7 @@
--- The slice that characters say, from the last character to the first (`rowOf`): the start, one character more in front, a byte that is none, the end; and that its numbers stay within a word.
+-- The slice that characters say (`rowOf`), from the last character to the first.
+--     sliceRow specified bits     the row of a slice by its two numbers
+--     row-start, row-go, row-none, row-end     of a loop that goes down: the start, one character more in front, a byte that is none, and the end
+--     specified-lt, bit-lt, row-fits     a character adds a bit to each number, which fit a word
 -- Assumes nothing.
 use mathlib.Core.Bool.{Bool, true, false}
 use mathlib.Core.Path.{_≡_, ap}

@@ -1,4 +1,8 @@
--- What a value says for its key, case by case (`characters`, `valued`, `keyed`), and what a line says by its key (`formed`).
+-- What a value says for its key, and a line by the key that it begins with.
+--     characters-many, characters-other, characters-right     more than 64 characters, not one for each chain, or one for each
+--     valued-decimal, valued-hexadecimal, valued-chainwise     a value, by the notation of its key
+--     keyed-long, keyed-value          a line with a key, by its length
+--     formed-known, formed-unknown     a line, by its key
 -- Assumes nothing.
 use mathlib.Core.Path.{_≡_}
 use mathlib.Core.List.{List}

@@ -1,4 +1,8 @@
 -- A line that is accepted at a place has the key that is due there, its number in range, and at most as many bytes as its key allows.
+--     nothing-said     nothing is no entry
+--     Accepted p e     the entry e has the key that is due at the place p, and its number is in range
+--     line-accepted    so it is with a line that is not refused there
+--     long-refused     a line of more bytes than every key allows is refused for its form
 -- Assumes nothing.
 use mathlib.Core.Bool.{Bool, true, false}
 use mathlib.Core.Path.{_≡_, refl, sym, ap, _∙_}

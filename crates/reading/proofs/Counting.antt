@@ -1,7 +1,10 @@
 -- How many chain lines and rows a text has that is read through (`reading`): as many masks as chains, at most 64, and at most 2,048 rows.
 --     Masked due masks chains    how many masks stand before a place where the key due is due
 --     Sound p                    that, and how many rows stand there
+--     placeAt due cells chains masks rows     the place by its numbers
+--     sound-step                 a place stays sound after a line that is accepted
 --     Counts p es q              the place q after the entries es has so many masks and rows more than p
+--     counted, read-counts       so it is of a text that is read through, from a place on and from the start
 -- Assumes nothing.
 use mathlib.Core.Bool.{Bool, true, false}
 use mathlib.Core.Path.{_≡_, refl, sym, _∙_}

@@ -1,6 +1,7 @@
 -- Only the first 169,441 bytes of a text decide how it is read (`readingOf`): every accepted line has at most 80 bytes, at most 2,117 lines are accepted, and a line of more than 80 bytes is refused as one without a line feed is.
---     enough          2,117 lines of 80 bytes, and 81 bytes more
---     ahead p         the most lines that are still accepted at the place p
+--     enough           2,117 lines of 80 bytes, and 81 bytes more
+--     aheadOf p        the most lines that are still accepted at the place p
+--     enough-reads     the first `enough` bytes are read as the whole is
 -- Assumes nothing.
 use mathlib.Core.Bool.{Bool, true, false}
 use mathlib.Core.Logic.{⊎-elim}

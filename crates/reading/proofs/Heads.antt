@@ -1,4 +1,7 @@
--- The number that is kept at the rank of a key (`keptAll`) is the last that a line says for that key.
+-- The number that is kept at the rank of a key (`keptAll`).
+--     rank-lt                     there are 9 ranks
+--     picked-here, picked-not     an entry that is picked, and one that is not
+--     kept-last                   what is kept is the last number that a line says for that key
 -- Assumes nothing.
 use mathlib.Core.Bool.{Bool, true, false}
 use mathlib.Core.Path.{_≡_, refl, sym, ap, _∙_}

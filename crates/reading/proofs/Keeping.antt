@@ -3,6 +3,10 @@
 --     lists h t m f s  the five of them
 --     kept e p l       the lists l with the entry e at the place p
 --     filled l p es    the lists l with the entries es, from the place p on
+--     filled-none, filled-step     no entry; an entry in front is kept first
+--     moved-counts     a line moves the place by at most one mask and one row
+--     length-kept      a list keeps its length
+--     Long l m, filled-long     two fillings that agree have lists of one length
 -- Assumes nothing.
 use mathlib.Core.Path.{_≡_, refl, sym, ap, _∙_}
 use mathlib.Core.List.{List, [], _∷_}

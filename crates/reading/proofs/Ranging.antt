@@ -1,4 +1,6 @@
--- What a line says at a place, case by case (`tested`), and the end of a text (`endOf`).
+-- What a line says at a place (`tested`), and the end of a text (`endOf`).
+--     tested-other, tested-beyond, tested-right     a line out of order, out of range, or neither
+--     end-whole, end-early     a text that may end there, and one that may not
 -- Assumes nothing.
 use mathlib.Core.Bool.{true, false}
 use mathlib.Core.Path.{_≡_}

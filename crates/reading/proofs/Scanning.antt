@@ -1,6 +1,10 @@
 -- The loop of `scan`: what is left of the text, read from here on, fills the lists as the whole does.
---     Left      what holds at the head of the loop
---     Ends      what a reading leaves
+--     Left             what holds at the head of the loop
+--     Ends             what a reading leaves
+--     left-start       before the first line
+--     left-long        the lists keep their lengths
+--     left-end, left-unended, left-refused     no line is left, the last one has no line feed, or the line is refused
+--     left-step        after a line that is accepted
 -- Assumes nothing.
 use mathlib.Core.Path.{_≡_, refl, sym, ap, _∙_}
 use mathlib.Core.List.{List}

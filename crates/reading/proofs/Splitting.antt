@@ -1,4 +1,7 @@
--- The first line of a text (`split`, `span`): byte by byte, and at a place of the text.
+-- The first line of a text.
+--     span-feed, span-go, span-end     of a loop that goes up: a line feed, another byte, and the end (`span`)
+--     split-line, split-rest           a text with a line feed, and one without (`split`)
+--     split-line-at, split-rest-at     the same from a place of the text on
 -- Assumes nothing.
 use mathlib.Core.Bool.{Bool, true, false}
 use mathlib.Core.Path.{_≡_, refl, ap, _∙_}

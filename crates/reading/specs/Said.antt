@@ -1,4 +1,4 @@
--- What the lines of a text say, by their keys.
+-- What the lines of a text say, by their keys (document 01, "Sheet and seed list").
 --     keyIs k e           the entry e has the key k
 --     rowIs e             the entry e is of a row
 --     picked p f es       the numbers f of the entries of es that p picks, in order

@@ -1,4 +1,4 @@
--- Register and chains together, and the settings of a call.
+-- Register and chains together, and the settings of a call (document 01, "Register and chains", and "Covering and cutting" on the longest window).
 --     longestWindow             the longest window of the base, in slices
 --     base cells taps           the settings of the base: windows of up to 256 slices
 --     Machine                   what covering, cutting and expanding see of register and chains: the states are the numbers below `states`; the slice and the next state of each

@@ -1,5 +1,6 @@
 -- What an accepted encoding of cubes gives (`encodeCubes`): its seeds, which are words, and that expanding them delivers the set.
---     Accepted ..       that of an answer with the stop slice and so many seeds
+--     Accepted ..        that of an answer with the stop slice and so many seeds
+--     cubes-accepted     an answer that is accepted gives it
 -- Assumes nothing.
 use mathlib.Core.Bool.{false}
 use mathlib.Core.Option.{Option, none, some}

@@ -1,5 +1,7 @@
 -- Which refusals are not by cause 9: those of the checks (`judged`) and of a walk over seeds (`walk`).
---     Other c      the cause c is not 9
+--     Other c          the cause c is not 9
+--     other-number     so its number is not
+--     judged-other, walk-other     what the checks and a walk refuse by
 -- Assumes nothing.
 use mathlib.Core.Bool.{Bool, true, false, _&&_}
 use mathlib.Core.Option.{Option, none, some}

@@ -1,4 +1,4 @@
--- Only the first 169,441 bytes of the input decide what a program prints.
+-- Only the first 169,441 bytes of the input decide what a program prints: encode-enough, expand-enough.
 -- Assumes nothing.
 use mathlib.Core.Path.{_≡_}
 use mathlib.Core.List.{List}

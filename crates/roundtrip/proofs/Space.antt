@@ -1,4 +1,5 @@
 -- No text is refused by cause 9: the lent buffer of 2,048 entries has space for every list and for all its slices.
+--     encode-not-short, expand-not-short     of the two programs
 -- Assumes nothing.
 use mathlib.Core.Bool.{Bool, true, false}
 use mathlib.Core.Option.{Option, none, some}

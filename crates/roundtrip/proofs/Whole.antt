@@ -1,4 +1,6 @@
--- The quote: the list that is printed for an accepted sheet has the stop slice of the steps and as many seeds as the answer says, and no covering list is shorter. The round trip: the list that is printed for an accepted sheet, read back and expanded, gives as many slices as the sheet has, each agreeing with the sheet's.
+-- What the list that is printed for an accepted sheet is worth.
+--     quoted         it has the stop slice of the steps and as many seeds as the answer says, and no covering list is shorter
+--     round-trip     read back and expanded, it gives as many slices as the sheet has, each agreeing with the sheet's
 -- Assumes nothing.
 use mathlib.Core.Bool.{true}
 use mathlib.Core.Path.{_≡_, refl, sym, ap, _∙_}

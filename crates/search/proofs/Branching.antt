@@ -6,7 +6,7 @@
 --     Branched            the rest reads the columns passed as x does; whatever else is clear is reached
 --     branched-start, branched-same, branched-child, branched-end     at the start, without a pivot, with a child that was searched, and at the end
 --     finds-pruned, finds-lowest     nothing here is lower; x itself is clear
---     child-shorter       a child has fewer vectors
+--     child-rising, child-shorter     the vectors of a child rise, and are fewer
 -- Assumes nothing.
 use mathlib.Core.Path.{_≡_, refl, sym, _∙_, subst}
 use mathlib.Core.Logic.{_⊎_, inl, inr, ⊎-elim}

@@ -1,12 +1,13 @@
 -- The laws of a leaf: the words of its rows, the lanes that they kill, and the first clear member.
 --     column-yes, column-no       the words of a mask, where the bit is 1 and where it is 0
 --     lanes-yes, lanes-no         the lanes of a group that read the bit of a column
---     matched-before              words that are written later leave a match as it was
+--     set-before, matched-before  an entry that is written leaves those before it, and a match there, as they were
 --     Filling, filling-start, filling-next, filling-end     of a loop that writes the words of a row
 --     filled-none, filled-row, filled-same     of a loop over the rows
 --     Showing, showing-start, showing-next     of a loop over the columns
 --     kills-none, kills-row, kills-fewer     of a loop over the rows
 --     dead-clear                  so the members of dead lanes are not clear
+--     NotClear n                  no member below number n is clear
 --     group-first, group-passed, group-dead    of a loop over the groups
 --     groups-few, groups-whole    there are at most 64 groups, and the groups of a leaf are all its members
 --     found-number, found-none    the first clear member is the lowest

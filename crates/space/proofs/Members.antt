@@ -3,7 +3,8 @@
 --     among-is, is-among           the same as the test
 --     among-lowest                 x is a member
 --     lowest-among                 and the lowest
---     ZeroAt laws and rising-add   a vector below all highest cells added to x changes nothing of the rise
+--     zero-sum                     a cell that holds 0 in two words holds 0 in their sum
+--     rising-add                   a vector below all highest cells added to x changes nothing of the rise
 -- Assumes nothing.
 use mathlib.Core.Path.{_≡_, refl}
 use mathlib.Core.Logic.{_⊎_, inl, inr, ⊎-elim}

@@ -1,11 +1,13 @@
 -- The pivot of a mask taken out of a space.
+--     parity            a vector is even or odd under the mask
 --     added-even, added-odd, pivot-even, pivot-odd, without-even, without-odd     one vector more, by its parity
 --     odd-some          an odd vector is not 0
 --     no-pivot          without a pivot all members have one parity
 --     kept-alike        what is left are members of the parity of x
 --     alike-kept        and all of them
 --     pivot-moves       a member stays one when the pivot is added to x
---     without-shorter   where there is a pivot, one vector is gone; otherwise none
+--     without-shorter, without-same     where there is a pivot, one vector is gone; otherwise none
+--     pivot-parity      the pivot is odd
 --     rising-kept, rising-moved     the vectors rise still, from x and from x with the pivot added
 -- Assumes nothing.
 use mathlib.Core.Path.{_≡_, refl, sym, ap, _∙_, subst}

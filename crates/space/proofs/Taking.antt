@@ -1,7 +1,7 @@
 -- What the functions that take out a pivot compute, as their loops go.
---     odd-start, odd-next, odd-here, odd-end     the place of the first odd vector: of a loop that goes up
+--     Passed, odd-start, odd-next, odd-here, odd-end     the place of the first odd vector: of a loop that goes up
 --     place-within, place-none, place-some       where it is the number of vectors, there is no pivot; otherwise the pivot stands there
---     close-next, close-end      the vectors after it moved down, one by one: what is left to write, written from here, is the whole
+--     Written, close-next, close-end     the vectors after it moved down, one by one: what is left to write, written from here, is the whole
 --     closed                     so the vectors that are left come first
 --     place-lt, taken-none, taken-some     the answer of `take_out`
 --     taken-left                 the vectors that are left, read off the buffer

@@ -1,4 +1,4 @@
--- The part of a buffer from a place on is as long as what is left there.
+-- What is within the part of a buffer from a place on is within what is left there: part-within.
 -- Assumes nothing.
 use mathlib.Core.Path.{_≡_}
 use mathlib.Core.List.{List}

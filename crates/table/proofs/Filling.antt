@@ -1,5 +1,7 @@
--- What the loop of `fill` keeps: the rows up to a place, then every other entry as it was.
+-- What the loop of `fill` keeps.
 --     entry-first, entry-next     what stands at a place
+--     Filled                      the rows up to a place, then every other entry as it was
+--     filled-length, filled-entry     the buffer keeps its length; the entry that is written next
 --     filled-start, filled-next, filled-end     of a loop that goes up
 -- Assumes nothing.
 use mathlib.Core.Path.{_≡_, sym, ap, _∙_}

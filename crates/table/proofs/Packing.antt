@@ -2,6 +2,7 @@
 --     packed-take, packed-skip     one chain more, by its position
 --     packed-below                 they fit so many bits
 --     pack-start, pack-take, pack-skip, pack-end     of a loop that goes down
+--     pack-room                    one more bit fits a word
 -- Assumes nothing.
 use mathlib.Core.Path.{_≡_, sym, ap, ap₂, _∙_}
 use mathlib.Core.Logic.{⊎-elim}

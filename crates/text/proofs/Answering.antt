@@ -1,4 +1,7 @@
--- What a call leaves that writes a list or slices (`called`): the answer to its text, and the buffer.
+-- What a call leaves that writes a list or slices (`called`).
+--     Leaves r out a after          with the reply r, a is its answer and after its buffer
+--     text-leaves                   a text that is written
+--     list-leaves, slices-leave     the list of an encoding, and the slices of an expanding
 -- Assumes nothing.
 use mathlib.Core.Logic.{⊎-elim}
 use mathlib.Core.Path.{_≡_, sym, ap, _∙_}

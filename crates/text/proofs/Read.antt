@@ -1,4 +1,8 @@
--- What stands in the lists after a text is read through: the masks, the rows, and the number for each key.
+-- What stands in the lists after a text is read through.
+--     Read kind s p      the masks and the rows stand in their lists, at most 64 and at most 2,048
+--     read-whole         so it is where the reading of s ends at the place p
+--     number-kept        the number for a key
+--     ends-whole, read-lists, masks-within, rows-within, bits-within, few-masks     the same, as the text calls have it
 -- Assumes nothing.
 use mathlib.Core.Path.{_≡_, sym, ap, _∙_}
 use mathlib.Core.List.{List, _++_}

@@ -1,6 +1,10 @@
 -- A buffer of 145,408 bytes has space for everything that the two programs print.
---     mostText       2,048 slice lines of 64 chains
---     Within r       the text of the reply r is no longer
+--     mostText                         2,048 slice lines of 64 chains
+--     encode-long, expand-long         a call leaves its buffer as long as it was
+--     Within r                         the text of the reply r is no longer than mostText
+--     encode-within, expand-within     so it is of both programs
+--     front bs out, shown-front        the text at the front of such a buffer: it is what is printed
+--     Prints, encode-prints, expand-prints     so a program leaves its text there
 -- Assumes nothing.
 use mathlib.Core.Bool.{Bool, true, false}
 use mathlib.Core.Logic.{⊎-elim}

@@ -1,4 +1,3 @@
--- x
 -- `expander::total_of` meets its contract: the seeds passed have delivered the total so far; the stop has not shown before slice t. Assumes nothing.
 use mathlib.Core.Option.{some}
 use mathlib.Core.Path.{sym, ap, _∙_}

@@ -1,4 +1,3 @@
--- x
 -- `expander::write_all` meets its contract: the slices of the seeds passed are written, and those of the rest complete them. Assumes nothing.
 use mathlib.Core.Path.{_≡_, refl}
 use mathlib.Core.List.{List}

@@ -1,4 +1,3 @@
--- x
 -- `expander::write_run` meets its contract: what is written and what follows up to the stop are the whole run. Assumes nothing.
 use mathlib.Core.Path.{_∙_}
 use Prim.Native.Nat.{_-_}

@@ -1,7 +1,6 @@
--- `gf2::beyond` meets its contract. Assumes nothing.
+-- `gf2::beyond` meets its contract: what is left of a word above the width is its quotient. Assumes nothing.
 use Rattle.gf2.proofs.Digits.{beyond-quotient, beyond-wide}
 use mathlib.Core.Path.{sym}
--- `gf2::beyond` meets its contract: what is left of a word above the width is its quotient. Assumes nothing.
 use borrow.Author.Needs.{needs}
 use Rattle.gf2.proofs.beyond.Statement.{statement}
 use Rattle.gf2.proofs.beyond.Tie as tie

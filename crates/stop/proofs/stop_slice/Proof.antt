@@ -1,4 +1,3 @@
--- x
 -- `stop::stop_slice` meets its contract. Assumes nothing.
 use mathlib.Core.Path.{_≡_, sym, _∙_}
 use borrow.Author.Needs.{needs}
