@@ -15,7 +15,7 @@ ghost use Rattle.register.specs.Machine.{base, machine};
 ghost use Rattle.slices.specs.declared.TestSlice.{TestSlice};
 ghost use Rattle.slices.specs.Slices.{badSlices, paired};
 ghost use Rattle.checks.specs.Order.{judged};
-ghost use Rattle.checks.specs.Calls.{setFaults, cubesFaults};
+ghost use Rattle.checks.specs.Calls.{setFaults};
 ghost use Rattle.checks.specs.declared.Verdict.the-variants as verdict;
 ghost use Rattle.covering.specs.Rules.{rules};
 ghost use Rattle.covering.specs.Windows.{far as farOf};

@@ -11,7 +11,7 @@ use Prim.Native.Nat.{ℕ, zero, suc, _+_, _-_, _*_, _/_, _%_, _^_, _≤_, _<_, m
 use native.Mathlib.Nat.{mod-lt, zero-lt-suc}
 use native.Mathlib.Omega.{arith}
 use lib.Arith.{mod-mul}
-use lib.Pow.{pow-pos, pow-mono, mod-mod-pow}
+use lib.Pow.{pow-pos, mod-mod-pow}
 use lib.Bits.{xor-lt}
 use Rattle.gf2.specs.Words.{digit, odd}
 use Rattle.gf2.proofs.Digits.{digit-zero, digit-suc, digit-mod}

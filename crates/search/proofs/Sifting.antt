@@ -14,10 +14,10 @@
 --     found-before                what was found before is as low as all that is left
 -- Assumes nothing.
 use mathlib.Core.Path.{_≡_, refl, sym, ap, ap₂, _∙_, subst}
-use mathlib.Core.Logic.{_⊎_, inl, inr, ⊎-elim}
-use mathlib.Core.Bool.{Bool, true, false}
+use mathlib.Core.Logic.{_⊎_, inl, ⊎-elim}
+use mathlib.Core.Bool.{true, false}
 use mathlib.Core.List.{List, _++_}
-use Prim.Native.Nat.{ℕ, suc, _+_, _-_, _*_, _/_, _%_, _^_, _≤_, _<_, min, max}
+use Prim.Native.Nat.{ℕ, suc, _+_, _-_, _*_, _/_, _%_, _^_, _≤_, _<_, max}
 use native.Mathlib.Nat.{suc-mul, mul-le-mul-right}
 use native.Mathlib.Numerals.{add-one}
 use native.Mathlib.Omega.{arith}
@@ -29,7 +29,7 @@ use borrow.Author.Tests.{leb-true}
 use Rattle.bounded.proofs.Tests.{clash, eq-or-not, fails, lt-or-le}
 use Rattle.gf2.specs.Words.{digit, odd}
 use Rattle.gf2.proofs.Digits.{digit-lt, digit-and, digit-wide}
-use Rattle.gf2.proofs.Parity.{odd-lt, xor-odd}
+use Rattle.gf2.proofs.Parity.{xor-odd}
 use Rattle.gf2.proofs.Xor.{digit-xor}
 use Rattle.space.specs.Space.{pick, Rising}
 use Rattle.space.proofs.Members.{Among}
@@ -39,12 +39,12 @@ use Rattle.lanes.proofs.Lanes.{reading-lane, all-lanes}
 use Rattle.search.specs.Clauses.{row, reads, shown, clear}
 use Rattle.search.specs.Code.{lower, reached}
 use Rattle.search.specs.Search.{lowestClear}
-use Rattle.search.specs.Leaf.{LeafSized, Reads, Matched, AllMatched, RowFilled, Filled, Kills, FirstClear}
+use Rattle.search.specs.Leaf.{Reads, Matched, AllMatched, RowFilled, Filled, Kills, FirstClear}
 use Rattle.search.specs.declared.Found.{Found}
 use Rattle.search.specs.declared.Found.the-variants.{State, Nothing}
 use Rattle.search.specs.declared.Pattern.{Pattern}
 use Rattle.search.proofs.Reading.{clear-at, reads-next, reads-end}
-use Rattle.search.proofs.Finding.{Reached, Finds, finds-lower}
+use Rattle.search.proofs.Finding.{Reached, finds-lower}
 use Rattle.search.proofs.Branching.{Passes, finds-lowest-clear}
 
 -- ---- the words of a mask

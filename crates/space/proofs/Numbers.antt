@@ -12,10 +12,10 @@ use mathlib.Core.Path.{_≡_, refl, sym, ap, ap₂, _∙_, subst}
 use mathlib.Core.Logic.{_⊎_, inl, inr, ⊎-elim}
 use mathlib.Core.List.{List, [], _∷_, _++_}
 use Prim.Native.Nat.{ℕ, zero, suc, _+_, _-_, _*_, _/_, _%_, _^_, _≤_, _<_}
-use native.Mathlib.Nat.{zero-lt-suc, div-eq-of-lt, eq-or-lt-of-le, lt-of-lt-of-le, div-div-eq-div-mul, div-one}
+use native.Mathlib.Nat.{zero-lt-suc, div-eq-of-lt, eq-or-lt-of-le, lt-of-lt-of-le, div-div-eq-div-mul}
 use native.Mathlib.Numerals.{add-one}
 use native.Mathlib.Omega.{arith}
-use lib.ListN.{getD, length, drop, take, drop-of-length-le}
+use lib.ListN.{getD, length, drop, drop-of-length-le}
 use lib.Seq.{drop-cons}
 use lib.Pow.{pow-mono, shr-mono, shr-shr}
 use lib.Bits.{bitXor, block-half, block-odd, xor-shr, xor-zero-r}
@@ -23,7 +23,7 @@ use Rattle.bounded.proofs.Tests.{lt-or-le}
 use Rattle.gf2.specs.Words.{digit}
 use Rattle.gf2.proofs.Digits.{digit-zero, digit-suc}
 use Rattle.gf2.proofs.Xor.{digit-xor, highest-below, xor-assoc, xor-swap}
-use Rattle.space.specs.Space.{choose, pick, ZeroAt, Rising, none, more}
+use Rattle.space.specs.Space.{choose, pick, ZeroAt, Rising, more}
 use Rattle.space.proofs.Members.{Among, zero-sum, rising-add}
 
 low-cases : (i : ℕ) → (i % 2 ≡ 0) ⊎ (i % 2 ≡ 1)

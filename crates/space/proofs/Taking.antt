@@ -15,10 +15,10 @@ use native.Mathlib.Numerals.{add-one}
 use native.Mathlib.Omega.{arith}
 use lib.Dec.{ltb}
 use lib.ListN.{take-append-drop, getD, length, take, drop, set, length-append, length-drop, length-map, drop-of-length-le}
-use lib.Seq.{take-all, take-at, sets, sets-eq, drop-cons, drop-set-lt, drop-length, getD-take, length-take-le, take-take, take-set-lt}
+use lib.Seq.{take-at, sets, sets-eq, drop-cons, drop-set-lt, drop-length, getD-take, length-take-le, take-take, take-set-lt}
 use borrow.Author.Tests.{eq-eqb, ne-eqb, lt-ltb, le-ltb}
 use Rattle.bounded.proofs.Front.{take-lesser}
-use Rattle.bounded.proofs.Tests.{eq-or-not, lt-or-le}
+use Rattle.bounded.proofs.Tests.{eq-or-not}
 use Rattle.gf2.specs.Words.{odd}
 use Rattle.space.specs.Space.{added, pivot, without}
 use Rattle.space.specs.Code.{firstOdd}

@@ -1,6 +1,5 @@
 -- What is within the part of a buffer from a place on is within what is left there: part-within.
 -- Assumes nothing.
-use mathlib.Core.Path.{_≡_}
 use mathlib.Core.List.{List}
 use Prim.Native.Nat.{ℕ, _-_, _≤_}
 use native.Mathlib.Omega.{arith}

@@ -3,14 +3,10 @@
 --     text-leaves                   a text that is written
 --     list-leaves, slices-leave     the list of an encoding, and the slices of an expanding
 -- Assumes nothing.
-use mathlib.Core.Logic.{⊎-elim}
-use mathlib.Core.Path.{_≡_, sym, ap, _∙_}
+use mathlib.Core.Path.{_≡_, ap, _∙_}
 use mathlib.Core.List.{List}
-use Prim.Native.Nat.{ℕ, _<_, min}
-use native.Mathlib.Nat.{le-of-lt, min-eq-left}
-use native.Mathlib.Omega.{arith}
+use Prim.Native.Nat.{ℕ, min}
 use lib.ListN.{length, take}
-use lib.Seq.{take-all, take-length}
 use Rattle.bounded.proofs.Front.{take-lesser}
 use Rattle.causes.specs.declared.Written.{Written}
 use Rattle.causes.specs.declared.Written.the-variants as written
