@@ -1,4 +1,8 @@
--- From the lists of a reading to what a text call leaves: the reply to what was read, and the refusal of a reading.
+-- From the lists of a reading to what a text call leaves.
+--     number-said                    the number that is kept for a key is the one that its line says
+--     sheet-said, list-said          what is encoded or expanded is what the lines say
+--     sheet-whole, list-whole        what a call leaves whose text is read through
+--     sheet-refused, list-refused    and one whose text is refused
 -- Assumes nothing.
 use mathlib.Core.Path.{_≡_, refl, sym, ap, _∙_}
 use mathlib.Core.List.{List}
@@ -53,13 +57,13 @@ module _ (kind : Kind) (s : List ℕ) (p : Place) (e : readingOf kind s .end ≡
         rw (← (number-said key.Cells cells c), ← (number-said key.Taps taps t), ← (number-said key.Stop (stop .specified) x), ← bits, ← (number-said key.Slices slices n), ← masks-said, ← rows-said) l
 
 module _ (s out : List ℕ) (a : Answer) (after : List ℕ) where
-  pub sheet-leaves : (p : Place) → readingOf kinds.Sheet s .end ≡ Whole p → Leaves (sheetReply (readingOf kinds.Sheet s .entries)) out a after → (a ≡ encodeCall s out .answer) × (after ≡ encodeCall s out .buffer)
+  pub sheet-whole : (p : Place) → readingOf kinds.Sheet s .end ≡ Whole p → Leaves (sheetReply (readingOf kinds.Sheet s .entries)) out a after → (a ≡ encodeCall s out .answer) × (after ≡ encodeCall s out .buffer)
   unfolding encodeCall encodeReply concluded
-  sheet-leaves p e l = rw e l
+  sheet-whole p e l = rw e l
 
-  pub list-leaves : (p : Place) → readingOf kinds.SeedList s .end ≡ Whole p → Leaves (seedListReply (readingOf kinds.SeedList s .entries)) out a after → (a ≡ expandCall s out .answer) × (after ≡ expandCall s out .buffer)
+  pub list-whole : (p : Place) → readingOf kinds.SeedList s .end ≡ Whole p → Leaves (seedListReply (readingOf kinds.SeedList s .entries)) out a after → (a ≡ expandCall s out .answer) × (after ≡ expandCall s out .buffer)
   unfolding expandCall expandReply concluded
-  list-leaves p e l = rw e l
+  list-whole p e l = rw e l
 
 module _ (s out : List ℕ) (r : Refusal) (z : Scanned) where
   pub sheet-refused : z ≡ readingOf kinds.Sheet s .end → z ≡ Refused r → (answers.Refused r ≡ encodeCall s out .answer) × (out ≡ encodeCall s out .buffer)

@@ -6,7 +6,7 @@ use Rattle.text.proofs.encode_text.Tie as tie
 use mathlib.Core.Path.{sym}
 use lib.Seq.{length-take-le}
 use Rattle.text.proofs.Read.{ends-whole, masks-within, rows-within, bits-within, few-masks}
-use Rattle.text.proofs.Concluding.{sheet-said, sheet-leaves, sheet-refused}
+use Rattle.text.proofs.Concluding.{sheet-said, sheet-whole, sheet-refused}
 
 slice-aggregate-scan : tie.Need-slice-aggregate-scan
 slice-aggregate-scan c = search needs
@@ -102,7 +102,7 @@ returns c =
     let e = ends-whole _ _ _ (s .0) (k .place .given .1) in
     let n3 = r .before .before .before .before in
     let n2 = n3 .before .before .before in
-    sheet-leaves _ _ _ _ _ e (sheet-said _ _ _ e _ _ _ (s .1 .0) (s .1 .1 .1 .0) (s .1 .1 .1 .1 .0) _ _ (n2 .before .before .number .ensures) (n2 .number2 .ensures) _ _ _ _ _ (n3 .number3 .ensures) (s .1 .1 .1 .1 .1) (r .encode-said .ensures))
+    sheet-whole _ _ _ _ _ e (sheet-said _ _ _ e _ _ _ (s .1 .0) (s .1 .1 .1 .0) (s .1 .1 .1 .1 .0) _ _ (n2 .before .before .number .ensures) (n2 .number2 .ensures) _ _ _ _ _ (n3 .number3 .ensures) (s .1 .1 .1 .1 .1) (r .encode-said .ensures))
 
 returns-2 : tie.Need-returns-2
 returns-2 c =

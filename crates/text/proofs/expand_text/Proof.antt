@@ -6,7 +6,7 @@ use Rattle.text.proofs.expand_text.Tie as tie
 use mathlib.Core.Path.{sym}
 use lib.Seq.{length-take-le}
 use Rattle.text.proofs.Read.{ends-whole, masks-within, rows-within, few-masks}
-use Rattle.text.proofs.Concluding.{list-said, list-leaves, list-refused}
+use Rattle.text.proofs.Concluding.{list-said, list-whole, list-refused}
 
 slice-aggregate-scan : tie.Need-slice-aggregate-scan
 slice-aggregate-scan c = search needs
@@ -105,7 +105,7 @@ returns c =
     let k = n1 .before .before .before in
     let s = k .before .before .before .before .before .before .before .scan .ensures in
     let e = ends-whole _ _ _ (s .0) (k .place .given .1) in
-    list-leaves _ _ _ _ _ e (list-said _ _ _ e _ _ _ (s .1 .0) (s .1 .1 .1 .0) (s .1 .1 .1 .1 .0) _ _ (n3 .number3 .ensures) (n4 .number4 .ensures) _ _ _ _ _ _ (s .1 .1 .0) (n1 .number .ensures) (n2 .number2 .ensures) (n5 .number5 .ensures) (r .expand-said .ensures))
+    list-whole _ _ _ _ _ e (list-said _ _ _ e _ _ _ (s .1 .0) (s .1 .1 .1 .0) (s .1 .1 .1 .1 .0) _ _ (n3 .number3 .ensures) (n4 .number4 .ensures) _ _ _ _ _ _ (s .1 .1 .0) (n1 .number .ensures) (n2 .number2 .ensures) (n5 .number5 .ensures) (r .expand-said .ensures))
 
 returns-2 : tie.Need-returns-2
 returns-2 c =
