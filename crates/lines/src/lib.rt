@@ -43,9 +43,6 @@ pub enum Line {
     Refused(LineCause),
 }
 
-// The most characters of a slice: one for each chain.
-const MOST_CHARACTERS: usize = 64;
-
 // What a byte is worth as a digit; 16 where it is none.
 fn worth(b: u8) -> u64
     ensures { λ r. ⌜ r ≡ worthOf b ⌝ }
@@ -171,7 +168,7 @@ fn sliced(key: Key, row: Row) -> Line
 fn characters(chains: usize, key: Key, value: &[u8]) -> Line
     ensures { λ r. ⌜ r ≡ charactersOf chains key (now (value .entry)) ⌝ }
 {
-    if MOST_CHARACTERS < value.len() {
+    if register::MOST_CHAINS < value.len() {
         return Line::Refused(LineCause::Form);
     }
     if value.len() != chains {

@@ -48,11 +48,6 @@ pub enum Scanned {
     Refused(Refusal),
 }
 
-// The most slice or seed lines, and the greatest depth.
-const MOST_ROWS: usize = 2048;
-
-const MOST_DEPTH: usize = 256;
-
 // Whether two keys are one.
 fn same(a: Key, b: Key) -> bool
     ensures { λ r. ⌜ r ≡ sameOf a b ⌝ }
@@ -79,11 +74,11 @@ fn out_of_range(place: Place, key: Key, v: u64) -> bool
         Key::Taps => register::bad_register(place.cells, v),
         Key::Chains => register::bad_count(v as usize),
         Key::Chain => register::bad_mask(place.cells, v),
-        Key::Depth => !bounded::within(1, MOST_DEPTH, v as usize),
-        Key::Slice => MOST_ROWS <= place.rows,
+        Key::Depth => !bounded::within(1, checks::MOST_DEPTH, v as usize),
+        Key::Slice => checks::MOST_SLICES <= place.rows,
         Key::Stop => v == 0,
         Key::Slices => checks::bad_set(v as usize),
-        Key::Seed => MOST_ROWS <= place.rows,
+        Key::Seed => checks::MOST_SLICES <= place.rows,
     }
 }
 
@@ -171,6 +166,20 @@ fn on_to(place: Place, due: Key) -> Place
     }
 }
 
+// The place after one row more, with a key due.
+fn after_row(place: Place, due: Key) -> Place
+    requires { ⌜ place .rows + 1 < 2 ^ 64 ⌝ }
+    ensures { λ r. ⌜ r ≡ afterRow place due ⌝ }
+{
+    Place {
+        due,
+        cells: place.cells,
+        chains: place.chains,
+        masks: place.masks,
+        rows: place.rows + 1,
+    }
+}
+
 // The place after a line with a key and a number.
 fn moved(kind: Kind, place: Place, key: Key, v: u64) -> Place
     requires { ⌜ (place .masks + 1 < 2 ^ 64) × (place .rows + 1 < 2 ^ 64) ⌝ }
@@ -200,24 +209,10 @@ fn moved(kind: Kind, place: Place, key: Key, v: u64) -> Place
             rows: place.rows,
         },
         Key::Depth => on_to(place, Key::Slice),
-        Key::Slice => one_row_more(place, Key::Slice),
+        Key::Slice => after_row(place, Key::Slice),
         Key::Stop => on_to(place, Key::Slices),
         Key::Slices => on_to(place, Key::Seed),
-        Key::Seed => one_row_more(place, Key::Seed),
-    }
-}
-
-// The place after one row more.
-fn one_row_more(place: Place, due: Key) -> Place
-    requires { ⌜ place .rows + 1 < 2 ^ 64 ⌝ }
-    ensures { λ r. ⌜ r ≡ afterRow place due ⌝ }
-{
-    Place {
-        due,
-        cells: place.cells,
-        chains: place.chains,
-        masks: place.masks,
-        rows: place.rows + 1,
+        Key::Seed => after_row(place, Key::Seed),
     }
 }
 

@@ -11,6 +11,12 @@ ghost use Rattle.search.specs.Code.{firstShown, lower, reached as reache
 ghost use Rattle.search.specs.Leaf.{AllMatched, Filled, FirstClear, Kills, LeafSized, Matched, Reads, RowFilled};
 ghost use Rattle.search.specs.declared.Found.the-variants.{State};
 
+// How many vectors the space of a leaf has at most.
+const LEAF_VECTORS: usize = 12;
+
+// How many words a leaf has for its rows.
+const LEAF_WORDS: usize = 512;
+
 // How many of the last vectors are left to the search of the whole space.
 const LAST_VECTORS: usize = 6;
 
@@ -69,12 +75,6 @@ fn first_shown(pattern: Pattern, table: &[u64], rows: usize, state: u64) -> usiz
     }
     row
 }
-
-// How many vectors the space of a leaf has at most.
-const LEAF_VECTORS: usize = 12;
-
-// How many words a leaf has for its rows.
-const LEAF_WORDS: usize = 512;
 
 // The two words of a column. Members are numbered; the lanes of the first word go by the low six digits of the number, those of the second by the others.
 struct Column {

@@ -92,7 +92,7 @@ fn encode_said(
     ensures answer { λ r. ⌜ r ≡ called (encoded cells taps (now (masks .entry)) depth (now (specified .entry)) (now (bits .entry))) (now (out .entry)) .answer ⌝ }
     ensures buffer { λ _. ⌜ now (out .exit) ≡ called (encoded cells taps (now (masks .entry)) depth (now (specified .entry)) (now (bits .entry))) (now (out .entry)) .buffer ⌝ }
 {
-    let mut seeds = [0u64; 2048];
+    let mut seeds = [0u64; checks::MOST_SLICES];
     let encoded = encoder::encode_cubes(cells, taps, masks, depth, specified, bits, &mut seeds);
     reply_list(cells, taps, masks, specified.len(), &seeds, encoded, out)
 }
@@ -111,7 +111,7 @@ fn expand_said(
     ensures answer { λ r. ⌜ r ≡ called (expanded cells taps (now (masks .entry)) stop slices (now (seeds .entry))) (now (out .entry)) .answer ⌝ }
     ensures buffer { λ _. ⌜ now (out .exit) ≡ called (expanded cells taps (now (masks .entry)) stop slices (now (seeds .entry))) (now (out .entry)) .buffer ⌝ }
 {
-    let mut values = [0u64; 2048];
+    let mut values = [0u64; checks::MOST_SLICES];
     let written = expander::expand_list(cells, taps, masks, stop, slices, seeds, &mut values);
     reply_slices(masks.len(), &values, written, out)
 }
@@ -131,9 +131,9 @@ pub fn encode_text(text: &[u8], out: &mut [u8]) -> Answer
 {
     let mut heads = [0u64; 9];
     let mut tails = [0u64; 9];
-    let mut masks = [0u64; 64];
-    let mut firsts = [0u64; 2048];
-    let mut seconds = [0u64; 2048];
+    let mut masks = [0u64; register::MOST_CHAINS];
+    let mut firsts = [0u64; checks::MOST_SLICES];
+    let mut seconds = [0u64; checks::MOST_SLICES];
     match reading::scan(
         Kind::Sheet,
         text,
@@ -163,9 +163,9 @@ pub fn expand_text(text: &[u8], out: &mut [u8]) -> Answer
 {
     let mut heads = [0u64; 9];
     let mut tails = [0u64; 9];
-    let mut masks = [0u64; 64];
-    let mut firsts = [0u64; 2048];
-    let mut seconds = [0u64; 2048];
+    let mut masks = [0u64; register::MOST_CHAINS];
+    let mut firsts = [0u64; checks::MOST_SLICES];
+    let mut seconds = [0u64; checks::MOST_SLICES];
     match reading::scan(
         Kind::SeedList,
         text,
