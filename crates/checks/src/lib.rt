@@ -28,7 +28,7 @@ pub enum Verdict {
 }
 
 // The first cause that holds, in the order of causes.
-pub fn judge(faults: Faults) -> Verdict
+fn judge(faults: Faults) -> Verdict
     ensures { λ r. ⌜ r ≡ judged faults ⌝ }
 {
     if faults.register {
@@ -50,7 +50,7 @@ pub fn judge(faults: Faults) -> Verdict
 }
 
 // Cause 3 of a window: its length not 1 to the limit.
-pub fn bad_window(limit: usize, slices: usize) -> bool
+fn bad_window(limit: usize, slices: usize) -> bool
     ensures { λ r. ⌜ r ≡ badWindow limit slices ⌝ }
 {
     !bounded::within(1, limit, slices)
@@ -64,7 +64,7 @@ pub fn bad_set(slices: usize) -> bool
 }
 
 // Cause 3 of a set that comes as cubes: depth not 1 to 256, or slices none, above 2,048 or no multiple of depth.
-pub fn bad_cubes(depth: usize, slices: usize) -> bool
+fn bad_cubes(depth: usize, slices: usize) -> bool
     ensures { λ r. ⌜ r ≡ badCubes depth slices ⌝ }
 {
     if !bounded::within(1, MOST_DEPTH, depth) {
@@ -77,7 +77,7 @@ pub fn bad_cubes(depth: usize, slices: usize) -> bool
 }
 
 // Cause 3 of a seed list: slices not 1 to 2,048, or more than 2,048 seeds.
-pub fn bad_list(slices: usize, seeds: usize) -> bool
+fn bad_list(slices: usize, seeds: usize) -> bool
     ensures { λ r. ⌜ r ≡ badList slices seeds ⌝ }
 {
     if bad_set(slices) {

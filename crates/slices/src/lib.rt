@@ -23,7 +23,7 @@ pub fn shows(stop: TestSlice, slice: u64) -> bool
 }
 
 // Whether a test slice has a bit set where unspecified, or a bit of either number beyond the chains.
-pub fn bad_slice(chains: usize, test: TestSlice) -> bool
+fn bad_slice(chains: usize, test: TestSlice) -> bool
     ensures { λ r. ⌜ r ≡ badSlice chains test ⌝ }
 {
     if test.bits & test.specified != test.bits {
