@@ -4,25 +4,22 @@
 --     forced-sound     a member of what is left is a member of the space
 --     forced-complete  a member that does not show the row is left
 --     forced-rising    the vectors rise still
---     forced-some      a space that is empty stays so
---     forced-free, forced-fewer     how many vectors are left: no more than there were
 -- Assumes nothing.
 use mathlib.Core.Path.{_≡_, refl, _∙_}
 use mathlib.Core.Logic.{⊎-elim}
 use mathlib.Core.Bool.{Bool, true, false, _&&_}
 use mathlib.Core.List.{List, [], _∷_}
-use Prim.Native.Nat.{ℕ, _/_, _%_, _≤_, _<_}
+use Prim.Native.Nat.{ℕ, _/_, _%_, _<_}
 use native.Mathlib.Omega.{arith}
 use lib.Dec.{eqb, ltb}
-use lib.ListN.{length}
 use borrow.Author.Tests.{eqb-true, eqb-false, eq-eqb, ltb-false}
 use Rattle.bounded.proofs.Tests.{both, and-yes, clash, eq-or-not}
 use Rattle.gf2.specs.Words.{odd}
 use Rattle.gf2.proofs.Parity.{odd-lt}
 use Rattle.space.specs.declared.Space.{Space}
 use Rattle.space.specs.Space.{pivot, restricted, shifted, without, Rising, Member}
-use Rattle.space.proofs.Members.{Among, among-is, is-among, among-lowest}
-use Rattle.space.proofs.Pivot.{no-pivot, without-same, without-shorter}
+use Rattle.space.proofs.Members.{Among, among-is, is-among}
+use Rattle.space.proofs.Pivot.{no-pivot}
 use Rattle.space.proofs.Restricting.{restrict-sound, restrict-complete, restrict-rising}
 use Rattle.search.specs.declared.Pattern.{Pattern}
 use Rattle.search.specs.Clauses.{reads, row, shown}
@@ -64,9 +61,6 @@ across-says (m ∷ ms) bits x vs s a =
 
 -- ---- a space that is narrowed
 
-without-fewer : (m : ℕ) (vs : List ℕ) → length (without m vs) ≤ length vs
-without-fewer m vs = ⊎-elim (λ z. rw (without-same m vs z) (omega arith)) (λ n. omega (arith, without-shorter m vs n)) (eq-or-not (pivot m vs) 0)
-
 module _ (vs : List ℕ) (y : Space) where
   narrowed-sound : (h : Shows) (s : ℕ) → Member (narrowed h vs y) (left h vs) s → Member y vs s
   unfolding restricted
@@ -94,17 +88,6 @@ module _ (vs : List ℕ) (y : Space) where
       restrict-rising m b vs (y .lowest) (eqb-true (odd x m) b (both (y .some) (eqb (odd x m) b) e .1)) r
   narrowed-rising Neither r e = r
 
-  narrowed-free : (h : Shows) → y .free ≡ length vs → narrowed h vs y .free ≡ length (left h vs)
-  unfolding restricted
-  narrowed-free Always e = e
-  narrowed-free (Unless m b) e = refl
-  narrowed-free Neither e = e
-
-  left-fewer : (h : Shows) → length (left h vs) ≤ length vs
-  left-fewer Always = omega arith
-  left-fewer (Unless m b) = without-fewer m vs
-  left-fewer Neither = omega arith
-
 -- ---- by a row
 
 module _ (p : Pattern) (table : List ℕ) (t : ℕ) (vs : List ℕ) (y : Space) where
@@ -124,17 +107,3 @@ module _ (p : Pattern) (table : List ℕ) (t : ℕ) (vs : List ℕ) (y : Space) 
   pub forced-rising : Rising (y .lowest) 0 vs → forced p table t vs y .some ≡ true → Rising (forced p table t vs y .lowest) 0 (forcedVectors p table t vs y)
   unfolding forced forcedVectors
   forced-rising = narrowed-rising vs y says
-
-  pub forced-some : forced p table t vs y .some ≡ true → y .some ≡ true
-  forced-some e =
-      let x = forced p table t vs y .lowest in
-      let ws = forcedVectors p table t vs y in
-      forced-sound x (e, is-among ws x x (among-lowest ws x)) .0
-
-  pub forced-free : y .free ≡ length vs → forced p table t vs y .free ≡ length (forcedVectors p table t vs y)
-  unfolding forced forcedVectors
-  forced-free = narrowed-free vs y says
-
-  pub forced-fewer : y .free ≡ length vs → forced p table t vs y .free ≤ y .free
-  unfolding forced forcedVectors
-  forced-fewer e = omega (arith, narrowed-free vs y says e, left-fewer vs y says)
