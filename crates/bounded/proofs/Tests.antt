@@ -2,6 +2,7 @@
 --     clash          a test is not both true and false
 --     lt-or-le       two numbers compare
 --     eq-or-not      two numbers are one, or not
+--     bit-cases      a bit is 0 or 1
 --     fails          a test that does not hold is false
 --     both, and-yes     a conjunction is true, and its parts are
 --     alike          two tests, each true where the other is, are one
@@ -12,7 +13,7 @@
 use mathlib.Core.Path.{_≡_, refl, sym}
 use mathlib.Core.Logic.{_⊎_, inl, inr}
 use mathlib.Core.Bool.{Bool, true, false, _&&_, _||_}
-use Prim.Native.Nat.{ℕ, _≤_, _<_}
+use Prim.Native.Nat.{ℕ, zero, suc, _≤_, _<_}
 use native.Mathlib.Omega.{arith}
 use lib.Dec.{ltb, leb, eqb}
 use borrow.Author.Tests.{ltb-true, ltb-false, leb-true, le-leb, lt-leb, eqb-true, eqb-false}
@@ -34,6 +35,11 @@ eq-or-not a b = go (eqb a b) refl
     go : (t : Bool) → eqb a b ≡ t → (a ≡ b) ⊎ (a ≡ b → ⊥)
     go true e = inl (eqb-true a b e)
     go false e = inr (eqb-false a b e)
+
+pub bit-cases : (b : ℕ) → b < 2 → (b ≡ 0) ⊎ (b ≡ 1)
+bit-cases zero h = inl refl
+bit-cases (suc zero) h = inr refl
+bit-cases (suc (suc b)) h = absurd (omega arith)
 
 pub fails : (b : Bool) → (b ≡ true → ⊥) → b ≡ false
 fails true f = absurd (f refl)

@@ -13,6 +13,7 @@ use Prim.Native.Nat.{ℕ, zero, suc, _+_, _-_, _≤_, _<_}
 use native.Mathlib.Omega.{arith}
 use lib.ListN.{length, getD, drop, drop-of-length-le, length-append}
 use lib.Seq.{sets, length-sets}
+use Rattle.bounded.proofs.Front.{sets-append}
 use Rattle.gf2.specs.Words.{beyond}
 use Rattle.register.specs.declared.Settings.{Settings}
 use Rattle.register.specs.Machine.{Machine, machine}
@@ -24,7 +25,7 @@ use Rattle.expander.specs.Expanding.{Walk, ran, failed, after, walk}
 use Rattle.expander.specs.Code.{untilStop}
 use Rattle.expander.proofs.OneSeed.{run-length}
 use Rattle.expander.proofs.Tallying.{walk-beyond, walk-at-stop, walk-endless, walk-next}
-use Rattle.expander.proofs.Writing.{until-run, sets-append}
+use Rattle.expander.proofs.Writing.{until-run}
 
 pub until-length : (M : Machine) (stop : TestSlice) (d s : ℕ) → length (untilStop M stop d s) ≤ d
 unfolding untilStop

@@ -3,12 +3,11 @@
 --     writes-start, writes-next    none yet; one slice more
 --     writes-stop, writes-end      the stop shows; the buffer ends
 --     until-run                    the slices before the stop are the run up to it, where there is room
---     sets-append                  two runs, one behind the other
 -- Assumes nothing.
 use mathlib.Core.Path.{_≡_, refl, ap, _∙_}
 use mathlib.Core.Bool.{Bool, true, false}
 use mathlib.Core.Option.{Option, none, some, Option·map}
-use mathlib.Core.List.{List, [], _∷_, _++_}
+use mathlib.Core.List.{List, [], _∷_}
 use Prim.Native.Nat.{ℕ, zero, suc, _+_, _-_, _≤_, _<_}
 use native.Mathlib.Numerals.{add-one}
 use native.Mathlib.Omega.{arith}
@@ -85,9 +84,3 @@ module _ (M : Machine) (stop : TestSlice) (seed at : ℕ) (before : List ℕ) wh
           place = omega (arith, p);
           buffer = rw add-one (rw add-one at (rw e at (w .buffer)));
         }
-
-pub sets-append : (vs ws l : List ℕ) (i : ℕ) → sets l i (vs ++ ws) ≡ sets (sets l i vs) (i + length vs) ws
-sets-append [] ws l i = let z : i + 0 ≡ i = omega arith in rw z
-sets-append (v ∷ vs) ws l i =
-    let e : suc i + length vs ≡ i + suc (length vs) = omega arith in
-    sets-append vs ws (set l i v) (suc i) ∙ ap (λ (k : ℕ). sets (sets (set l i v) (suc i) vs) k ws) e

@@ -3,20 +3,19 @@
 --     together-whole, together-assoc     the parts of a row in one, from either end
 --     across-next, across-neither, across-end     what is done together with what is left is the whole
 -- Assumes nothing.
-use mathlib.Core.Path.{_≡_, refl, sym, ap, _∙_}
+use mathlib.Core.Path.{_≡_, refl, sym, _∙_}
 use mathlib.Core.Bool.{true, false}
-use mathlib.Core.List.{List, _∷_}
+use mathlib.Core.List.{List}
 use Prim.Native.Nat.{ℕ, suc, _+_, _-_, _*_, _/_, _%_, _≤_, _<_}
 use native.Mathlib.Numerals.{add-one}
 use native.Mathlib.Omega.{arith}
 use lib.Dec.{ltb}
 use lib.ListN.{getD, length, drop, drop-of-length-le}
-use lib.Seq.{drop-cons}
 use borrow.Author.Tests.{eq-eqb, ne-eqb}
 use Rattle.gf2.specs.Words.{odd}
 use Rattle.space.specs.Space.{pivot}
 use Rattle.search.specs.Clauses.{row}
-use Rattle.search.proofs.Reading.{row-length, row-at}
+use Rattle.search.proofs.Reading.{row-length, row-rest}
 use Rattle.forcing.specs.Forcing.{across, column, together}
 use Rattle.forcing.specs.declared.Shows.{Shows}
 use Rattle.forcing.specs.declared.Shows.the-variants.{Always, Unless, Neither}
@@ -52,14 +51,11 @@ module _ (k : ℕ) (table : List ℕ) (t : ℕ) (fits : t * k + k ≤ length tab
   abbrev R : List ℕ
   R = row k table t
 
-  here : (j : ℕ) → j < k → drop j R ≡ getD table (t * k + j) 0 ∷ drop (suc j) R
-  here j h = drop-cons R j 0 (rw (row-length k table t fits) h) ∙ ap (λ (m : ℕ). m ∷ drop (suc j) R) (row-at k table t fits j h)
-
   -- one column more; w is the whole row
   pub across-next : {w : Shows} (j bits : ℕ) (p d q : Shows) → j < k → d ≡ column (getD table (t * k + j) 0) (bits % 2) x vs → q ≡ together p d
       → w ≡ together p (across (drop j R) bits x vs) → w ≡ together q (across (drop (j + 1) R) (bits / 2) x vs)
   unfolding across
-  across-next j bits p d q h e f i = i ∙ rw (add-one j, here j h, f, e) (sym (together-assoc p (column (getD table (t * k + j) 0) (bits % 2) x vs) (across (drop (suc j) R) (bits / 2) x vs)))
+  across-next j bits p d q h e f i = i ∙ rw (add-one j, row-rest k table t fits j h, f, e) (sym (together-assoc p (column (getD table (t * k + j) 0) (bits % 2) x vs) (across (drop (suc j) R) (bits / 2) x vs)))
 
   pub across-neither : {w : Shows} (j bits : ℕ) (q : Shows) → w ≡ together q (across (drop j R) bits x vs) → q ≡ Neither → Neither ≡ w
   across-neither j bits q i e = sym (i ∙ rw e)

@@ -1,6 +1,6 @@
 -- Laws of digits.
 --     digit-lt, digit-zero, digit-suc     a digit is 0 or 1; the lowest; the one above
---     digit-wide                 beyond the word every digit is 0
+--     digit-wide, digit-none     beyond the word every digit is 0, and so is every digit of 0
 --     digit-mod                  a digit of a remainder that has it
 --     digit-and                  a digit of a conjunction is the lesser of the two
 --     words-equal                two words with the same digits are one
@@ -52,7 +52,7 @@ pub digit-and : (a b i : ℕ) → digit (bitAnd a b) i ≡ min (digit a i) (digi
 unfolding digit
 digit-and a b i = ap (λ (x : ℕ). x % 2) (and-shr a b i) ∙ (let e = and-step (a / 2 ^ i) (b / 2 ^ i) in omega arith)
 
-digit-none : (i : ℕ) → digit 0 i ≡ 0
+pub digit-none : (i : ℕ) → digit 0 i ≡ 0
 unfolding digit
 digit-none i = ap (λ (x : ℕ). x % 2) (zero-div (2 ^ i))
 

@@ -22,7 +22,7 @@ use lib.Seq.{take-suc, length-take-le}
 use borrow.Author.Tests.{eqb-true}
 use Rattle.bounded.proofs.Tests.{both, eq-or-not, lt-or-le}
 use Rattle.gf2.specs.Words.{digit, odd}
-use Rattle.gf2.proofs.Digits.{digit-lt, digit-wide, put-same, put-other, put-below, words-equal}
+use Rattle.gf2.proofs.Digits.{digit-lt, digit-none, digit-wide, put-same, put-other, put-below, words-equal}
 use Rattle.gf2.proofs.Xor.{digit-xor}
 use Rattle.gf2.proofs.Parity.{odd-lt, xor-odd}
 use Rattle.space.specs.Space.{choose, pick}
@@ -99,7 +99,7 @@ only-fits w b h l = omega (arith, mul-le-mul-left {m = b} {n = 1} w (omega arith
 
 only-lane : (w b i : ℕ) → b < 2 → digit (w * b) i ≡ digit w i * b
 unfolding digit
-only-lane w zero i h = let z : w * 0 ≡ 0 = omega arith in rw z (omega (arith, digit-wide 0 0 i (omega arith) (omega arith)))
+only-lane w zero i h = let z : w * 0 ≡ 0 = omega arith in rw z (omega (arith, digit-none i))
 only-lane w (suc zero) i h = let e : w * 1 ≡ w = omega arith in rw e (omega arith)
 only-lane w (suc (suc b)) i h = absurd (omega arith)
 

@@ -1,5 +1,5 @@
 -- The seed list that is written is read back as what was written.
---     cells-fine, stop-some, slices-few     what the checks say of single numbers
+--     cells-fine, stop-some     what the checks say of single numbers
 --     tail-reads      the lines from the stop line on are read through
 --     list-reads      so are all lines
 --     read-back       the reading of the whole list
@@ -7,14 +7,13 @@
 use mathlib.Core.Bool.{false, not, _||_}
 use mathlib.Core.Path.{_≡_, refl}
 use mathlib.Core.List.{List, _∷_, _++_, map, append-assoc}
-use Prim.Native.Nat.{ℕ, _-_, _≤_}
+use Prim.Native.Nat.{ℕ, _-_}
 use native.Mathlib.Nat.{zero-add}
 use native.Mathlib.Omega.{arith}
-use borrow.Author.Tests.{not-false}
 use lib.Dec.{eqb}
 use lib.ListN.{length}
 use Rattle.bounded.specs.Bounded.{within}
-use Rattle.bounded.proofs.Tests.{neither, within-yes}
+use Rattle.bounded.proofs.Tests.{neither}
 use Rattle.gf2.specs.Words.{digit, beyond}
 use Rattle.gf2.proofs.Digits.{beyond-wide}
 use Rattle.register.specs.Machine.{base}
@@ -23,7 +22,7 @@ use Rattle.register.proofs.Causes.{cells-within, taps-below, chains-within, cha
 use Rattle.slices.specs.Slices.{badSlice, badStop}
 use Rattle.slices.specs.declared.TestSlice.{TestSlice}
 use Rattle.slices.proofs.Formed.{slice-formed as formed-slice, stop-slice}
-use Rattle.checks.specs.Lengths.{badSet}
+use Rattle.checks.proofs.Lengths.{set-within}
 use Rattle.keys.specs.Keys.{name, notation}
 use Rattle.keys.specs.declared.Key.the-variants as key
 use Rattle.reading.specs.Order.{start, outOfRange, moved}
@@ -46,10 +45,6 @@ stop-some : (chains : ℕ) (stop : TestSlice) → badStop chains stop ≡ false 
 unfolding badStop
 stop-some chains stop b = neither (eqb (stop .specified) 0) (badSlice chains stop) b .0
 
-slices-few : (slices : ℕ) → badSet slices ≡ false → slices ≤ 2048
-unfolding badSet
-slices-few slices b = within-yes 1 2048 slices (not-false (within 1 2048 slices) b) .1
-
 module _ (cells taps : ℕ) (masks : List ℕ) (stop : TestSlice) (slices : ℕ) (seeds : List ℕ) (p : Printable cells taps masks stop slices seeds) where
   -- The place after the last line.
   abbrev last : Place
@@ -65,7 +60,7 @@ module _ (cells taps : ℕ) (masks : List ℕ) (stop : TestSlice) (slices : ℕ)
       (slice-formed n key.Stop refl stop (chains-within cells masks (p .chains) .1) (formed-slice n stop (stop-slice n stop (p .stopped))))
       (stop-some n stop (p .stopped))
       (number-reads key.Slices cells n n 0 last _ _ 10 slices
-      (decimal-formed n key.Slices refl slices (omega (arith, slices-few slices (p .total))))
+      (decimal-formed n key.Slices refl slices (omega (arith, set-within slices (p .total) .1)))
       (p .total)
       (rw zero-add at (seeds-read cells n n seeds 0 (omega (arith, p .few)) (p .words))))
 

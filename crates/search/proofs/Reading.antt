@@ -1,5 +1,6 @@
 -- Laws of rows, of reading them, and of clear states.
 --     row-at, row-length     a mask of a row, and how many there are
+--     row-rest               the masks from one on: that one, and the rest
 --     reads-alike            two states with the same parities under each mask read alike
 --     reads-next, reads-differs, reads-end     of a loop that goes up through a row: what is left decides
 --     clear-at, none-clear, clear-front   a clear state shows the pattern in none of the rows, nor in the first of them
@@ -32,6 +33,9 @@ module _ (k : ℕ) (table : List ℕ) (t : ℕ) (fits : t * k + k ≤ length tab
   pub row-at : (j : ℕ) → j < k → getD (row k table t) j 0 ≡ getD table (t * k + j) 0
   row-at j h = getD-take k (drop (t * k) table) j 0 h ∙ getD-drop (t * k) table j 0
 
+  pub row-rest : (j : ℕ) → j < k → drop j (row k table t) ≡ getD table (t * k + j) 0 ∷ drop (suc j) (row k table t)
+  row-rest j h = drop-cons (row k table t) j 0 (rw row-length h) ∙ ap (λ (m : ℕ). m ∷ drop (suc j) (row k table t)) (row-at j h)
+
 pub reads-alike : (ms : List ℕ) (bits s x : ℕ) → ((i : ℕ) → i < length ms → odd s (getD ms i 0) ≡ odd x (getD ms i 0)) → reads ms bits s ≡ reads ms bits x
 unfolding reads
 reads-alike [] bits s x h = refl
@@ -43,16 +47,13 @@ module _ (k : ℕ) (table : List ℕ) (t : ℕ) (fits : t * k + k ≤ length tab
   abbrev R : List ℕ
   R = row k table t
 
-  here : (j : ℕ) → j < k → drop j R ≡ getD table (t * k + j) 0 ∷ drop (suc j) R
-  here j h = drop-cons R j 0 (rw (row-length k table t fits) h) ∙ ap (λ (m : ℕ). m ∷ drop (suc j) R) (row-at k table t fits j h)
-
   pub reads-next : (j bits : ℕ) → j < k → odd s (getD table (t * k + j) 0) ≡ bits % 2 → reads (drop j R) bits s ≡ reads (drop (j + 1) R) (bits / 2) s
   unfolding reads
-  reads-next j bits h e = rw (add-one j, here j h, reads, eq-eqb (odd s (getD table (t * k + j) 0)) (bits % 2) e)
+  reads-next j bits h e = rw (add-one j, row-rest k table t fits j h, reads, eq-eqb (odd s (getD table (t * k + j) 0)) (bits % 2) e)
 
   pub reads-differs : (j bits : ℕ) → j < k → (odd s (getD table (t * k + j) 0) ≡ bits % 2 → ⊥) → false ≡ reads (drop j R) bits s
   unfolding reads
-  reads-differs j bits h n = rw (here j h, reads, ne-eqb (odd s (getD table (t * k + j) 0)) (bits % 2) n)
+  reads-differs j bits h n = rw (row-rest k table t fits j h, reads, ne-eqb (odd s (getD table (t * k + j) 0)) (bits % 2) n)
 
   pub reads-end : (j bits : ℕ) → k ≤ j → true ≡ reads (drop j R) bits s
   unfolding reads

@@ -28,7 +28,7 @@ use lib.Seq.{getD-set-same, getD-set-other, take-all, take-take, take-append-add
 use borrow.Author.Tests.{leb-true}
 use Rattle.bounded.proofs.Tests.{clash, eq-or-not, fails, lt-or-le}
 use Rattle.gf2.specs.Words.{digit, odd}
-use Rattle.gf2.proofs.Digits.{digit-lt, digit-and, digit-wide}
+use Rattle.gf2.proofs.Digits.{digit-lt, digit-none, digit-and}
 use Rattle.gf2.proofs.Parity.{xor-odd}
 use Rattle.gf2.proofs.Xor.{digit-xor}
 use Rattle.space.specs.Space.{pick, Rising}
@@ -235,12 +235,9 @@ digit-or : (a b i : ℕ) → digit (bitOr a b) i ≡ max (digit a i) (digit b i)
 unfolding digit
 digit-or a b i = ap (λ (x : ℕ). x % 2) (or-shr a b i) ∙ (let e = or-step (a / 2 ^ i) (b / 2 ^ i) in omega arith)
 
-pub digit-none : (i : ℕ) → digit 0 i ≡ 1 → ⊥
-digit-none i e = omega (arith, digit-wide 0 0 i (omega arith) (omega arith))
-
 module _ (words : List ℕ) (k g : ℕ) where
   pub kills-none : Kills words k 0 g 0
-  kills-none q h i b e = absurd (digit-none i e)
+  kills-none q h i b e = absurd (omega (arith, digit-none i))
 
   pub kills-row : (n d r : ℕ) → Kills words k n g d → ((i : ℕ) → i < 64 → digit r i ≡ 1 → AllMatched words (n * (k * 2)) k g i) → Kills words k (n + 1) g (bitOr d r)
   kills-row n d r s m q h i b e =

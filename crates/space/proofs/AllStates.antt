@@ -7,7 +7,7 @@ use mathlib.Core.Path.{_≡_, refl, sym, ap, _∙_, subst}
 use mathlib.Core.Logic.{inl, inr}
 use mathlib.Core.List.{List, [], _∷_, _++_}
 use Prim.Native.Nat.{ℕ, zero, suc, _+_, _*_, _/_, _%_, _^_, _≤_, _<_}
-use native.Mathlib.Nat.{zero-lt-suc, mod-eq-of-lt, mod-lt, zero-div}
+use native.Mathlib.Nat.{zero-lt-suc, mod-eq-of-lt, mod-lt}
 use native.Mathlib.Numerals.{add-one}
 use native.Mathlib.Omega.{arith}
 use lib.Arith.{mod-mul}
@@ -16,13 +16,9 @@ use lib.ListN.{length, set, take}
 use lib.Seq.{take-suc-set}
 use lib.Pow.{pow-pos, pow-lt, shl-shr}
 use Rattle.gf2.specs.Words.{digit}
-use Rattle.gf2.proofs.Digits.{digit-lt, digit-suc, digit-zero, one-shifted}
+use Rattle.gf2.proofs.Digits.{digit-lt, digit-none, digit-suc, digit-zero, one-shifted}
 use Rattle.space.specs.Space.{units, ZeroAt, Rising, none, more}
 use Rattle.space.proofs.Members.{Among}
-
-digit-none : (h : ℕ) → digit 0 h ≡ 0
-unfolding digit
-digit-none h = ap (λ (x : ℕ). x % 2) (zero-div (2 ^ h))
 
 digit-unit : (p q : ℕ) → (q ≡ p → ⊥) → digit (2 ^ p) q ≡ 0
 digit-unit zero zero h = absurd (h refl)

@@ -19,7 +19,7 @@ use lib.ListN.{getD, length, drop, drop-of-length-le}
 use lib.Seq.{drop-cons}
 use lib.Pow.{pow-mono, shr-mono, shr-shr}
 use lib.Bits.{bitXor, block-half, block-odd, xor-shr, xor-zero-r}
-use Rattle.bounded.proofs.Tests.{lt-or-le}
+use Rattle.bounded.proofs.Tests.{bit-cases, lt-or-le}
 use Rattle.gf2.specs.Words.{digit}
 use Rattle.gf2.proofs.Digits.{digit-zero, digit-suc}
 use Rattle.gf2.proofs.Xor.{digit-xor, highest-below, xor-assoc, xor-swap}
@@ -27,12 +27,7 @@ use Rattle.space.specs.Space.{choose, pick, ZeroAt, Rising, more}
 use Rattle.space.proofs.Members.{Among, zero-sum, rising-add}
 
 low-cases : (i : ℕ) → (i % 2 ≡ 0) ⊎ (i % 2 ≡ 1)
-low-cases i = go (i % 2) (omega arith)
-  where
-    go : (b : ℕ) → b < 2 → (b ≡ 0) ⊎ (b ≡ 1)
-    go zero h = inl refl
-    go (suc zero) h = inr refl
-    go (suc (suc b)) h = absurd (omega arith)
+low-cases i = bit-cases (i % 2) (omega arith)
 
 twice : (n : ℕ) → 2 ^ suc n ≡ 2 * 2 ^ n
 twice n = omega arith

@@ -20,6 +20,7 @@ use lib.Bits.{bitXor}
 use lib.ListN.{length, length-map}
 use lib.Pow.{pow-mono}
 use borrow.Author.Tests.{eq-eqb, ne-eqb}
+use Rattle.bounded.proofs.Tests.{bit-cases}
 use Rattle.gf2.specs.Words.{digit, odd}
 use Rattle.gf2.proofs.Digits.{digit-wide}
 use Rattle.gf2.proofs.Parity.{odd-lt, odd-zero-l, xor-odd}
@@ -28,12 +29,7 @@ use Rattle.space.specs.Space.{added, pivot, without, ZeroAt, Rising, non
 use Rattle.space.proofs.Members.{Among, zero-sum, rising-add}
 
 pub parity : (mask w : ℕ) → (odd w mask ≡ 0) ⊎ (odd w mask ≡ 1)
-parity mask w = go (odd w mask) (odd-lt w mask)
-  where
-    go : (b : ℕ) → b < 2 → (b ≡ 0) ⊎ (b ≡ 1)
-    go zero h = inl refl
-    go (suc zero) h = inr refl
-    go (suc (suc b)) h = absurd (omega arith)
+parity mask w = bit-cases (odd w mask) (odd-lt w mask)
 
 module _ (mask : ℕ) where
   pub added-even : (p w : ℕ) → odd w mask ≡ 0 → added mask p w ≡ w

@@ -10,7 +10,7 @@ use Prim.Native.Nat.{ℕ, zero, suc, _+_, _-_, _*_, _/_, _%_, _≤_, _<_}
 use native.Mathlib.Nat.{suc-mul, zero-mul, mul-zero}
 use native.Mathlib.Omega.{arith}
 use lib.Bits.{bitXor, xor-zero-r}
-use lib.ListN.{getD, length, take, drop, length-append, length-map}
+use lib.ListN.{getD, length, take, drop, length-append, length-map, List·getD-append}
 use lib.Seq.{getD-append-add, take-append-seam, drop-append-add}
 use Rattle.register.specs.Register.{pull, pulls}
 use Rattle.table.specs.Rows.{rowsOf}
@@ -39,11 +39,6 @@ getD-map : (f : ℕ → ℕ) (l : List ℕ) (i : ℕ) → i < length l → getD 
 getD-map f [] i h = absurd (omega arith)
 getD-map f (x ∷ l) zero h = refl
 getD-map f (x ∷ l) (suc i) h = getD-map f l i (omega arith)
-
-getD-front : (l m : List ℕ) (i : ℕ) → i < length l → getD (l ++ m) i 0 ≡ getD l i 0
-getD-front [] m i h = absurd (omega arith)
-getD-front (x ∷ l) m zero h = refl
-getD-front (x ∷ l) m (suc i) h = getD-front l m i (omega arith)
 
 module _ (taps : ℕ) where
   pub rows-length : (n : ℕ) (ms : List ℕ) → length (rowsOf taps n ms) ≡ n * length ms
@@ -85,7 +80,7 @@ module _ (taps : ℕ) where
   pub rows-first : (n : ℕ) (ms : List ℕ) (i : ℕ) → i < n * length ms → i < length ms → getD (rowsOf taps n ms) i 0 ≡ getD ms i 0
   unfolding rowsOf
   rows-first zero ms i h l = absurd (omega (arith, zero-mul (length ms)))
-  rows-first (suc n) ms i h l = getD-front ms (rowsOf taps n (map (pull taps) ms)) i l
+  rows-first (suc n) ms i h l = List·getD-append ms (rowsOf taps n (map (pull taps) ms)) 0 i l
 
   pub rows-next : (n : ℕ) (ms : List ℕ) (i : ℕ) → i < n * length ms → length ms ≤ i → getD (rowsOf taps n ms) i 0 ≡ pull taps (getD (rowsOf taps n ms) (i - length ms) 0)
   unfolding rowsOf
@@ -98,4 +93,4 @@ module _ (taps : ℕ) where
       ∙ getD-append-add ms (rowsOf taps n (map (pull taps) ms)) j 0
       ∙ ap (λ (x : List ℕ). getD x j 0) (rows-pulled n ms)
       ∙ getD-map (pull taps) (rowsOf taps n ms) j k
-      ∙ ap (pull taps) (sym (getD-front (rowsOf taps n ms) (map (pulls taps n) ms) j k) ∙ ap (λ (x : List ℕ). getD x j 0) (sym (rows-last n ms)))
+      ∙ ap (pull taps) (sym (List·getD-append (rowsOf taps n ms) (map (pulls taps n) ms) 0 j k) ∙ ap (λ (x : List ℕ). getD x j 0) (sym (rows-last n ms)))

@@ -1,6 +1,5 @@
 -- Texts stored into a buffer from a place on, as far as the buffer goes.
 --     Left old at text out place rest      the rest, stored into out from place on, gives what the text gives in old from at on
---     sets-append      two runs of stores, one after the other
 --     sets-front       a text at the front of a buffer with space for it
 --     stored-byte      one byte
 --     join             a text stored in two parts
@@ -9,22 +8,17 @@
 -- Assumes nothing.
 use mathlib.Core.Path.{_≡_, refl, sym, ap, _∙_}
 use mathlib.Core.List.{List, [], _∷_, _++_}
-use Prim.Native.Nat.{ℕ, suc, _+_, _≤_, _<_, _^_}
-use native.Mathlib.Nat.{add-zero, zero-add}
+use Prim.Native.Nat.{ℕ, _+_, _≤_, _<_, _^_}
+use native.Mathlib.Nat.{zero-add}
 use native.Mathlib.Omega.{arith}
-use lib.ListN.{length, drop, set, length-append}
+use lib.ListN.{length, drop, length-append}
 use lib.Seq.{sets, sets-eq, length-sets}
+use Rattle.bounded.proofs.Front.{sets-append}
 use Rattle.causes.specs.Outcome.{fill}
 use Rattle.causes.specs.declared.Cause.the-variants.{NoSpace}
 use Rattle.causes.specs.declared.Written.the-variants.{Count, Refused}
 use Rattle.causes.proofs.Outcome.{outcome-parts, refused-parts, fill-whole, fill-short}
 use Rattle.writing.specs.Code.{Stored}
-
-pub sets-append : (a b old : List ℕ) (at : ℕ) → sets old at (a ++ b) ≡ sets (sets old at a) (at + length a) b
-sets-append [] b old at = rw add-zero
-sets-append (x ∷ a) b old at =
-    let e : suc at + length a ≡ at + suc (length a) = omega arith in
-    sets-append a b (set old at x) (suc at) ∙ rw e
 
 pub sets-front : (text out : List ℕ) (n : ℕ) → length text ≡ n → n ≤ length out → sets out 0 text ≡ text ++ drop n out
 sets-front text out n e h = rw (sets-eq text out 0 (omega arith), zero-add, e)

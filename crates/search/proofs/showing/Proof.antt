@@ -4,7 +4,8 @@ use borrow.Author.Needs.{needs}
 use native.Mathlib.Omega.{arith}
 use mathlib.Core.Path.{_≡_, subst}
 use Prim.Native.Nat.{ℕ, _+_, _-_}
-use Rattle.search.proofs.Sifting.{Showing, showing-start, showing-next, digit-none}
+use Rattle.gf2.proofs.Digits.{digit-none}
+use Rattle.search.proofs.Sifting.{Showing, showing-start, showing-next}
 use Rattle.search.proofs.showing.Statement.{statement}
 use Rattle.search.proofs.showing.Tie as tie
 
@@ -53,7 +54,7 @@ loop-holds c =
     (showing-next (a .words .now) (a .first) (a .columns) (a .group) (bitAnd (x .result) (y .result)) 2 (a .first + 4) (c .lanes-of3 .result) (omega (arith, s .pre .0, c .before .if1 .left)) two (c .lanes-of3 .ensures))
 
 returns-2 : tie.Need-returns-2 Inv-loop μ-loop
-returns-2 c = λ i h e. absurd (digit-none i e)
+returns-2 c = λ i h e. absurd (omega (arith, digit-none i))
 
 lanes-of-requires-4 : tie.Need-lanes-of-requires-4 Inv-loop μ-loop
 lanes-of-requires-4 c κs = search needs
