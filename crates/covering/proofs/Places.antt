@@ -45,7 +45,7 @@ before-le (e ∷ es) i n = go (ltb i e) (before-le es i n)
     go true h = omega arith
     go false h = h
 
-pub far-mono : (R : Rules) (n i j : ℕ) → i ≤ j → far R n i ≤ far R n j
+far-mono : (R : Rules) (n i j : ℕ) → i ≤ j → far R n i ≤ far R n j
 unfolding far
 far-mono R n i j h = before-mono (R .edges) i j (min n (i + R .limit)) (min n (j + R .limit)) h (omega arith)
 

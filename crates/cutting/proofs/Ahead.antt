@@ -24,7 +24,7 @@ module _ (ok : ℕ → ℕ → Bool) (n : ℕ) (w : Bounds ok n) where
   hop-le zero a = omega arith
   hop-le (suc j) a = omega (arith, reach-le ok n w a, hop-le j (reach ok n a))
 
-  pub delivered-all : {a b : ℕ} {es : List ℕ} → Cuts ok a es b → delivered a es (length es) ≡ b
+  delivered-all : {a b : ℕ} {es : List ℕ} → Cuts ok a es b → delivered a es (length es) ≡ b
   unfolding delivered
   delivered-all no-window = refl
   delivered-all (window t c) = delivered-all c
@@ -34,7 +34,7 @@ module _ (ok : ℕ → ℕ → Bool) (n : ℕ) (w : Bounds ok n) where
   delivered-none a zero = refl
   delivered-none a (suc j) = refl
 
-  pub delivered-hop : (j d a : ℕ) → n ≤ a + d → delivered a (ends ok n d a) j ≡ hop ok n j a
+  delivered-hop : (j d a : ℕ) → n ≤ a + d → delivered a (ends ok n d a) j ≡ hop ok n j a
   unfolding delivered hop
   delivered-hop zero d a h = refl
   delivered-hop (suc j) d a h = go d h (reach-cases ok n w a) (λ d b f. delivered-hop j d b f)
@@ -49,7 +49,7 @@ module _ (ok : ℕ → ℕ → Bool) (n : ℕ) (w : Bounds ok n) where
       go (suc d) h (inr g) ih = rw (ends-more ok n d a (g .1), delivered) (ih d (reach ok n a) (let l = g .1 in omega arith))
 
 module _ (ok : ℕ → ℕ → Bool) (n : ℕ) (w : Windows ok n) where
-  pub ahead-hop : {a b : ℕ} {es : List ℕ} (j g : ℕ) → Cuts ok a es b → a ≤ g → delivered a es j ≤ hop ok n j g
+  ahead-hop : {a b : ℕ} {es : List ℕ} (j g : ℕ) → Cuts ok a es b → a ≤ g → delivered a es j ≤ hop ok n j g
   unfolding delivered hop
   ahead-hop zero g c h = h
   ahead-hop (suc j) g no-window h = omega (arith, hop-le ok n (w .bounds) (suc j) g)

@@ -60,7 +60,7 @@ module _ (g : Settings) (masks : List ℕ) (stop : TestSlice) (specified bits : 
   few-seeds w seeds l =
       omega (arith, cuts-count (ok M R set) (length set) (set-bounds M R set) (covering-cuts M R set (l .covers)), covering-length (CoveredBy M R set) (l .covers), set-length w, set-within (length specified) (formed w .lengths) .1)
 
-  pub list-formed : verdict-of ≡ verdict.WellFormed → (seeds : List ℕ) → Shortest M R set seeds
+  list-formed : verdict-of ≡ verdict.WellFormed → (seeds : List ℕ) → Shortest M R set seeds
       → judged (listFaults g masks stop (length specified) (length seeds)) ≡ verdict.WellFormed
   unfolding listFaults
   list-formed w seeds l = well-formed (listFaults g masks stop (length specified) (length seeds)) (record {

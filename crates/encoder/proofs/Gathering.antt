@@ -68,7 +68,7 @@ module _ (M : Machine) (R : Rules) (set : List TestSlice) (old : List ℕ) where
               ∙ ap (λ (es : List ℕ). sets out count (seedsOf M R set place es)) (sym more) ∙ f .written;
         }
 
-  pub gathering-end : (place count : ℕ) (out : List ℕ) → n ≤ length old → reach (ok M R set) n place ≡ place → Gathering place count out
+  gathering-end : (place count : ℕ) (out : List ℕ) → n ≤ length old → reach (ok M R set) n place ≡ place → Gathering place count out
       → (place ≡ Hop n 0) × (count ≡ length (seedsOf M R set 0 (Ends n 0)))
       × (out ≡ seedsOf M R set 0 (Ends n 0) ++ drop (length (seedsOf M R set 0 (Ends n 0))) old)
   unfolding seedsOf

@@ -56,7 +56,7 @@ module _ (M : Machine) (R : Rules) (set : List TestSlice) (a : ℕ) where
       rw (le-ltb k (length w) (omega (arith, part-length)), or-false, q))
       (lt-or-le k (e - a))
 
-  pub seed-same : (k : ℕ) → 0 < k → k ≤ e - a → seedFor M (R .live a) last w k ≡ seedAt M R set a (a + k)
+  seed-same : (k : ℕ) → 0 < k → k ≤ e - a → seedFor M (R .live a) last w k ≡ seedAt M R set a (a + k)
   unfolding seedFor seedAt
   seed-same k p h =
       let q : a + k - a ≡ k = omega arith in

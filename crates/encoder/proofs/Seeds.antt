@@ -23,7 +23,7 @@ use Rattle.covering.proofs.Windows.{ok-window, window-ok}
 use Rattle.encoder.specs.Encoding.{seedsOf}
 
 module _ (M : Machine) (R : Rules) (set : List TestSlice) where
-  pub seed-covers : (i k : ℕ) → ok M R set i k ≡ true → CoveredBy M R set i k (Option·getD (seedAt M R set i k) 0)
+  seed-covers : (i k : ℕ) → ok M R set i k ≡ true → CoveredBy M R set i k (Option·getD (seedAt M R set i k) 0)
   unfolding ok seedAt coversPart
   seed-covers i k t =
       let a = both (placed R (length set) i k) (found (seedAt M R set i k)) t in

@@ -75,7 +75,7 @@ module _ (M : Machine) (R : Rules) (set : List TestSlice) (closed : R .openEnd �
       let q : a + (k - a) ≡ k = omega arith in
       walk-gives M R n place a s ss (k - a) (window-delivers a k s c place (n - a) (isLast ss)) ∙ rw (q, e)
 
-  pub walk-covering : (place : ℕ) {a b : ℕ} {es ss : List ℕ} → Covering (CoveredBy M R set) a es ss b → b ≡ n
+  walk-covering : (place : ℕ) {a b : ℕ} {es ss : List ℕ} → Covering (CoveredBy M R set) a es ss b → b ≡ n
       → (vs : List ℕ) × (walk M R n place a ss ≡ ran vs) × Agree (drop a set) vs
   unfolding walk
   walk-covering place {a} no-state e = ([], refl, rw (drop-of-length-le set {i = a} (omega arith)) agree-none)

@@ -33,12 +33,12 @@ module _ (m b x : ℕ) (vs : List ℕ) where
   unfolding column
   column-differs e n = rw (e, ne-eqb (odd x m) b n, column)
 
-pub together-whole : (p : Shows) → together p Always ≡ p
+together-whole : (p : Shows) → together p Always ≡ p
 together-whole Always = refl
 together-whole (Unless m b) = refl
 together-whole Neither = refl
 
-pub together-assoc : (p q r : Shows) → together (together p q) r ≡ together p (together q r)
+together-assoc : (p q r : Shows) → together (together p q) r ≡ together p (together q r)
 together-assoc Always q r = refl
 together-assoc (Unless m b) Always r = refl
 together-assoc (Unless m b) (Unless n c) Always = refl

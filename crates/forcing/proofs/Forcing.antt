@@ -28,7 +28,7 @@ use Rattle.forcing.specs.declared.Shows.{Shows}
 use Rattle.forcing.specs.declared.Shows.the-variants.{Always, Unless, Neither}
 use Rattle.forcing.proofs.Columns.{column-splits, column-reads, column-differs}
 
-abbrev pub Says : Shows → Bool → ℕ → Type 0
+abbrev Says : Shows → Bool → ℕ → Type 0
 Says Always c s = c ≡ true
 Says (Unless m b) c s = (b < 2) × (c ≡ false → odd s m ≡ b)
 Says Neither c s = Unit {0}
@@ -52,7 +52,7 @@ together-says (Unless m b) (Unless n c) e d s h g = tt
 together-says (Unless m b) Neither e d s h g = tt
 together-says Neither q c d s h g = tt
 
-pub across-says : (ms : List ℕ) (bits x : ℕ) (vs : List ℕ) (s : ℕ) → Among x vs s → Says (across ms bits x vs) (reads ms bits s) s
+across-says : (ms : List ℕ) (bits x : ℕ) (vs : List ℕ) (s : ℕ) → Among x vs s → Says (across ms bits x vs) (reads ms bits s) s
 unfolding across reads
 across-says [] bits x vs s a = refl
 across-says (m ∷ ms) bits x vs s a =

@@ -34,7 +34,7 @@ pub odd-zero-l : (m : ℕ) → odd 0 m ≡ 0
 unfolding odd ones
 odd-zero-l m = refl
 
-pub odd-comm : (s m : ℕ) → odd s m ≡ odd m s
+odd-comm : (s m : ℕ) → odd s m ≡ odd m s
 unfolding odd
 odd-comm s m = ap (λ (x : ℕ). ones x % 2) (and-comm s m)
 

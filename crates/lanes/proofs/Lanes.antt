@@ -30,7 +30,7 @@ use Rattle.space.proofs.Numbers.{pick-last}
 use Rattle.lanes.specs.Lanes.{wordOf, readings}
 
 module _ (f : ℕ → ℕ) (bits : (i : ℕ) → f i < 2) where
-  pub word-below : (n : ℕ) → wordOf f n < 2 ^ n
+  word-below : (n : ℕ) → wordOf f n < 2 ^ n
   unfolding wordOf
   word-below zero = omega arith
   word-below (suc n) =
@@ -38,7 +38,7 @@ module _ (f : ℕ → ℕ) (bits : (i : ℕ) → f i < 2) where
       let w : wordOf f n < 2 ^ suc n = omega arith in
       put-below (f n) (bits n) (suc n) (wordOf f n) n (omega arith) w (digit-wide n (wordOf f n) n (omega arith) l)
 
-  pub lane-word : (n i : ℕ) → i < n → digit (wordOf f n) i ≡ f i
+  lane-word : (n i : ℕ) → i < n → digit (wordOf f n) i ≡ f i
   unfolding wordOf
   lane-word zero i h = absurd (omega arith)
   lane-word (suc n) i h =
@@ -70,7 +70,7 @@ each-at p (suc n) e k h =
 unfoldable pub digit-test : ℕ → ℕ → ℕ → Bool
 digit-test k w i = eqb (digit w i) (digit i k)
 
-pub digit-each : (k w : ℕ) → each (digit-test k w) 64 ≡ true → (i : ℕ) → i < 64 → digit w i ≡ digit i k
+digit-each : (k w : ℕ) → each (digit-test k w) 64 ≡ true → (i : ℕ) → i < 64 → digit w i ≡ digit i k
 unfolding digit-test
 digit-each k w e i h = eqb-true (digit w i) (digit i k) (each-at (digit-test k w) 64 e i h)
 

@@ -31,11 +31,11 @@ rank-lt key.Slices = omega arith
 rank-lt key.Seed = omega arith
 
 module _ (k : Key) (f : Entry → ℕ) (e : Entry) (es : List Entry) where
-  pub picked-here : (p : Entry → Bool) → p e ≡ true → picked p f (e ∷ es) ≡ f e ∷ picked p f es
+  picked-here : (p : Entry → Bool) → p e ≡ true → picked p f (e ∷ es) ≡ f e ∷ picked p f es
   unfolding picked
   picked-here p t = rw (t, picked)
 
-  pub picked-not : (p : Entry → Bool) → p e ≡ false → picked p f (e ∷ es) ≡ picked p f es
+  picked-not : (p : Entry → Bool) → p e ≡ false → picked p f (e ∷ es) ≡ picked p f es
   unfolding picked
   picked-not p t = rw (t, picked)
 

@@ -84,7 +84,7 @@ moved-counts kind p key.Stop v = (omega arith, omega arith)
 moved-counts kind p key.Slices v = (omega arith, omega arith)
 moved-counts kind p key.Seed v = (omega arith, omega arith)
 
-pub length-kept : (f : Entry → ℕ) (l : List ℕ) (es : List Entry) → length (keptAll f l es) ≡ length l
+length-kept : (f : Entry → ℕ) (l : List ℕ) (es : List Entry) → length (keptAll f l es) ≡ length l
 unfolding keptAll
 length-kept f l [] = refl
 length-kept f l (e ∷ es) = length-kept f (set l (rank (e .key)) (f e)) es ∙ length-set l (rank (e .key)) (f e)

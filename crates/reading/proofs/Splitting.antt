@@ -29,7 +29,7 @@ module _ (s : List ℕ) (i : ℕ) where
   unfolding span
   span-end h = rw (drop-of-length-le s h)
 
-pub split-line : (t : List ℕ) → span t < length t → split t ≡ line (take (span t) t) (split (drop (suc (span t)) t))
+split-line : (t : List ℕ) → span t < length t → split t ≡ line (take (span t) t) (split (drop (suc (span t)) t))
 unfolding split span
 split-line [] h = absurd (omega arith)
 split-line (b ∷ t) h = go (eqb b 10) h (split-line t)
@@ -39,7 +39,7 @@ split-line (b ∷ t) h = go (eqb b 10) h (split-line t)
     go true h ih = refl
     go false h ih = ap (joined b) (ih (omega arith))
 
-pub split-rest : (t : List ℕ) → length t ≤ span t → split t ≡ rest t
+split-rest : (t : List ℕ) → length t ≤ span t → split t ≡ rest t
 unfolding split span
 split-rest [] h = refl
 split-rest (b ∷ t) h = go (eqb b 10) h (split-rest t)

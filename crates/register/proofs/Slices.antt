@@ -33,7 +33,7 @@ slice-digit (m ∷ ms) s (suc j) h =
     let d : (odd s m + 2 * slice ms s) / 2 ≡ slice ms s = (let l = odd-lt s m in omega arith) in
     digit-suc (odd s m + 2 * slice ms s) j ∙ ap (λ (x : ℕ). digit x j) d ∙ slice-digit ms s j (le-of-suc-le-suc h)
 
-pub slice-more : (masks : List ℕ) (s i : ℕ) → i < length masks → slice (drop i masks) s ≡ slice (drop (suc i) masks) s * 2 + odd s (getD masks i 0)
+slice-more : (masks : List ℕ) (s i : ℕ) → i < length masks → slice (drop i masks) s ≡ slice (drop (suc i) masks) s * 2 + odd s (getD masks i 0)
 unfolding slice
 slice-more masks s i h = rw (drop-cons masks i 0 h) (omega arith)
 

@@ -70,7 +70,7 @@ pull-law (suc k) taps s m h l =
     pick (suc zero) l = let z : taps * 1 ≡ taps = omega arith in rw z (omega (arith, odd-lt s taps))
     pick (suc (suc d)) l = absurd (omega arith)
 
-pub pull-below : (cells taps m : ℕ) → taps < 2 ^ cells → m < 2 ^ cells → pull taps m < 2 ^ cells
+pull-below : (cells taps m : ℕ) → taps < 2 ^ cells → m < 2 ^ cells → pull taps m < 2 ^ cells
 unfolding pull
 pull-below cells taps m ht hm = xor-lt cells (m / 2) (taps * (m % 2)) (omega arith) (pick (m % 2) (omega arith))
   where

@@ -78,10 +78,10 @@ module _ (p : Pattern) (table : List ℕ) (m : ℕ) where
   abbrev pub Passes : ℕ → List ℕ → ℕ → Type 0
   Passes x vs s = Among x vs s × (clear p table m s ≡ true)
 
-  pub passes-test : (x : ℕ) (vs : List ℕ) (s : ℕ) → Passes x vs s → (among x vs s && clear p table m s) ≡ true
+  passes-test : (x : ℕ) (vs : List ℕ) (s : ℕ) → Passes x vs s → (among x vs s && clear p table m s) ≡ true
   passes-test x vs s h = and-yes (among x vs s) (clear p table m s) (is-among vs x s (h .0)) (h .1)
 
-  pub test-passes : (x : ℕ) (vs : List ℕ) (s : ℕ) → (among x vs s && clear p table m s) ≡ true → Passes x vs s
+  test-passes : (x : ℕ) (vs : List ℕ) (s : ℕ) → (among x vs s && clear p table m s) ≡ true → Passes x vs s
   test-passes x vs s t = let h = both (among x vs s) (clear p table m s) t in (among-is vs x s (h .0), h .1)
 
   finds-map : (P Q : ℕ → Type 0) (a r : Found) → ((s : ℕ) → P s → Q s) → ((s : ℕ) → Q s → P s) → Finds P a r → Finds Q a r

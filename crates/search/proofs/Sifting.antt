@@ -109,7 +109,7 @@ module _ (words : List ℕ) (a g : ℕ) where
 pub set-before : (l : List ℕ) (p v i : ℕ) → i < p → getD (set l p v) i 0 ≡ getD l i 0
 set-before l p v i h = getD-set-other l p i v 0 (λ e. omega arith)
 
-pub matched-before : (l k : List ℕ) (p a g i : ℕ) → a + 1 < p → ((j : ℕ) → j < p → getD l j 0 ≡ getD k j 0) → Matched l a g i → Matched k a g i
+matched-before : (l k : List ℕ) (p a g i : ℕ) → a + 1 < p → ((j : ℕ) → j < p → getD l j 0 ≡ getD k j 0) → Matched l a g i → Matched k a g i
 matched-before l k p a g i h e m =
     ap₂ (λ (y z : ℕ). (digit y i + digit z g) % 2) (sym (e a (omega arith))) (sym (e (a + 1) h)) ∙ m
 

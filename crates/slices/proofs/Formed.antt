@@ -71,7 +71,7 @@ module _ (chains : ℕ) where
   unfolding badSlices
   slices-all ps bs b = neither (not (eqb (length ps) (length bs))) (any (badSlice chains) (paired ps bs)) b .1
 
-  pub all-slices : (ps bs : List ℕ) → length ps ≡ length bs → any (badSlice chains) (paired ps bs) ≡ false → badSlices chains ps bs ≡ false
+  all-slices : (ps bs : List ℕ) → length ps ≡ length bs → any (badSlice chains) (paired ps bs) ≡ false → badSlices chains ps bs ≡ false
   unfolding badSlices
   all-slices ps bs e a = rw (eq-eqb (length ps) (length bs) e) a
 

@@ -32,11 +32,11 @@ low-cases i = bit-cases (i % 2) (omega arith)
 twice : (n : ℕ) → 2 ^ suc n ≡ 2 * 2 ^ n
 twice n = omega arith
 
-pub pick-skip : (x v i : ℕ) (vs : List ℕ) → i % 2 ≡ 0 → pick x (v ∷ vs) i ≡ pick x vs (i / 2)
+pick-skip : (x v i : ℕ) (vs : List ℕ) → i % 2 ≡ 0 → pick x (v ∷ vs) i ≡ pick x vs (i / 2)
 unfolding pick
 pick-skip x v i vs e = rw e
 
-pub pick-take : (x v i : ℕ) (vs : List ℕ) → i % 2 ≡ 1 → pick x (v ∷ vs) i ≡ pick (bitXor x v) vs (i / 2)
+pick-take : (x v i : ℕ) (vs : List ℕ) → i % 2 ≡ 1 → pick x (v ∷ vs) i ≡ pick (bitXor x v) vs (i / 2)
 unfolding pick
 pick-take x v i vs e = rw e
 
@@ -46,7 +46,7 @@ choose-add : (n x a v : ℕ) → choose n (bitXor x a) (bitXor (bitXor x a) v) �
 choose-add zero x a v = refl
 choose-add (suc n) x a v = xor-swap x a v
 
-pub pick-add : (vs : List ℕ) (x a i : ℕ) → pick (bitXor x a) vs i ≡ bitXor (pick x vs i) a
+pick-add : (vs : List ℕ) (x a i : ℕ) → pick (bitXor x a) vs i ≡ bitXor (pick x vs i) a
 unfolding pick
 pick-add [] x a i = refl
 pick-add (v ∷ vs) x a i = rw (choose-add (i % 2) x a v) (pick-add vs (choose (i % 2) x (bitXor x v)) a (i / 2))

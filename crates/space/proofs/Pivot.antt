@@ -88,7 +88,7 @@ module _ (mask : ℕ) where
     back : (vs : List ℕ) (y s : ℕ) → Among (bitXor (bitXor y p) p) vs s → Among y vs s
     back vs y s a = subst (λ (t : ℕ). Among t vs s) (xor-twice y p) a
 
-    pub add-sound : (vs : List ℕ) (y s : ℕ) → Among y (add vs) s → Both y vs s
+    add-sound : (vs : List ℕ) (y s : ℕ) → Among y (add vs) s → Both y vs s
     unfolding Among
     add-sound [] y s a = inl a
     add-sound (v ∷ vs) y s (inl a) = ⊎-elim (λ c. inl (inl c)) (λ c. inr (inl c)) (add-sound vs y s a)
@@ -111,7 +111,7 @@ module _ (mask : ℕ) where
         (⊎-elim (λ c. inr (subst (λ (t : ℕ). Among t vs s) (sym (xor-twice (bitXor y v) p)) c)) (λ c. inl c) b)))
         (parity mask v)
 
-    pub add-complete : (vs : List ℕ) → Complete vs
+    add-complete : (vs : List ℕ) → Complete vs
     unfolding Among
     add-complete [] y s q (inl a) = a
     add-complete [] y s q (inr a) = absurd (omega (arith, xor-odd y p mask, odd-lt y mask, ap (λ (t : ℕ). odd t mask) a))

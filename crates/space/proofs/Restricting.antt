@@ -24,7 +24,7 @@ use Rattle.space.specs.declared.Taken.{Taken}
 use Rattle.space.proofs.Members.{Among}
 use Rattle.space.proofs.Pivot.{no-pivot, kept-alike, alike-kept, pivot-moves, rising-kept, rising-moved, pivot-parity}
 
-pub shifted-none : (mask b x : ℕ) → shifted mask b x 0 ≡ x
+shifted-none : (mask b x : ℕ) → shifted mask b x 0 ≡ x
 unfolding shifted
 shifted-none mask b x = go (eqb (odd x mask) b) refl
   where

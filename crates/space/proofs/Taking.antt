@@ -34,12 +34,12 @@ module _ (mask : ℕ) where
   unfolding firstOdd
   later v vs e = rw (ne-eqb (odd v mask) 1 (omega arith), firstOdd)
 
-  pub place-within : (vs : List ℕ) → firstOdd mask vs ≤ length vs
+  place-within : (vs : List ℕ) → firstOdd mask vs ≤ length vs
   unfolding firstOdd
   place-within [] = omega arith
   place-within (v ∷ vs) = ⊎-elim (λ e. omega (arith, later v vs e, place-within vs)) (λ e. omega (arith, here v vs e)) (parity mask v)
 
-  pub place-none : (vs : List ℕ) → firstOdd mask vs ≡ length vs → (pivot mask vs ≡ 0) × (without mask vs ≡ vs)
+  place-none : (vs : List ℕ) → firstOdd mask vs ≡ length vs → (pivot mask vs ≡ 0) × (without mask vs ≡ vs)
   unfolding pivot without
   place-none [] q = (refl, refl)
   place-none (v ∷ vs) q = ⊎-elim
@@ -51,7 +51,7 @@ module _ (mask : ℕ) where
   abbrev Stands : List ℕ → ℕ → Type 0
   Stands vs i = (pivot mask vs ≡ getD vs i 0) × (without mask vs ≡ take i vs ++ map (added mask (getD vs i 0)) (drop (suc i) vs))
 
-  pub place-some : (vs : List ℕ) (i : ℕ) → firstOdd mask vs ≡ i → i < length vs → Stands vs i
+  place-some : (vs : List ℕ) (i : ℕ) → firstOdd mask vs ≡ i → i < length vs → Stands vs i
   place-some [] i q h = absurd (omega arith)
   place-some (v ∷ vs) zero q h = ⊎-elim
       (λ e. absurd (omega (arith, later v vs e)))

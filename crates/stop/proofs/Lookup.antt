@@ -78,16 +78,16 @@ module _ (stop : TestSlice) (p b : ℕ) (unset : isSet p stop ≡ false) (bit : 
       let e : digit (bitAnd (stop .bits) (stop .specified)) p ≡ digit (stop .bits) p = ap (λ (x : ℕ). digit x p) f in
       omega (arith, digit-and (stop .bits) (stop .specified) p, free)
 
-  pub put-specified : (i : ℕ) → (i ≡ p → ⊥) → digit (put p b stop .specified) i ≡ digit (stop .specified) i
+  put-specified : (i : ℕ) → (i ≡ p → ⊥) → digit (put p b stop .specified) i ≡ digit (stop .specified) i
   put-specified i ne = rw (one-weight (stop .specified) p) at (put-other 1 (omega arith) (stop .specified) p i free ne)
 
-  pub put-bits : (i : ℕ) → (i ≡ p → ⊥) → digit (put p b stop .bits) i ≡ digit (stop .bits) i
+  put-bits : (i : ℕ) → (i ≡ p → ⊥) → digit (put p b stop .bits) i ≡ digit (stop .bits) i
   put-bits i ne = put-other b bit (stop .bits) p i free-bit ne
 
-  pub put-here : digit (put p b stop .specified) p ≡ 1
+  put-here : digit (put p b stop .specified) p ≡ 1
   put-here = rw (one-weight (stop .specified) p) at (put-same 1 (omega arith) (stop .specified) p free)
 
-  pub put-bit : digit (put p b stop .bits) p ≡ b
+  put-bit : digit (put p b stop .bits) p ≡ b
   put-bit = put-same b bit (stop .bits) p free-bit
 
   pub put-formed : BitsSpecified (put p b stop)
@@ -120,7 +120,7 @@ module _ (stop : TestSlice) (p b : ℕ) (unset : isSet p stop ≡ false) (bit : 
             let ne = eqb-false i p e in
             rw (put-bits i ne) (in-each stop t (parts .0) i (eq-eqb _ 1 (sym (put-specified i ne) ∙ eqb-true _ 1 s)))
 
-    pub in-put : isIn (put p b stop) t ≡ isIn stop t && has p b t
+    in-put : isIn (put p b stop) t ≡ isIn stop t && has p b t
     in-put = alike (isIn (put p b stop) t) (isIn stop t && has p b t) was-in still-in
 
 -- before the first step all are in

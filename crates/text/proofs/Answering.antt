@@ -23,7 +23,7 @@ abbrev pub Leaves : Reply → List ℕ → Answer → List ℕ → Type 0
 Leaves r out a after = (a ≡ called r out .answer) × (after ≡ called r out .buffer)
 
 module _ (bs : List ℕ) (n : ℕ) (out : List ℕ) where
-  pub text-leaves : (a : Answer) (w : Written) (after : List ℕ) → a ≡ answered n w → w ≡ fill bs out .answer → after ≡ fill bs out .buffer → Leaves (text bs n) out a after
+  text-leaves : (a : Answer) (w : Written) (after : List ℕ) → a ≡ answered n w → w ≡ fill bs out .answer → after ≡ fill bs out .buffer → Leaves (text bs n) out a after
   unfolding called
   text-leaves a w after e f g = (e ∙ ap (answered n) f, g)
 

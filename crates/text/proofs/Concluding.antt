@@ -32,7 +32,7 @@ use Rattle.text.proofs.Read.{read-whole, number-kept}
 -- The lists of a text that is read through, and the numbers for its keys.
 module _ (kind : Kind) (s : List ℕ) (p : Place) (e : readingOf kind s .end ≡ Whole p) (heads masks firsts : List ℕ)
     (h : heads ≡ keptAll (λ f. f .first) (replicate 9 0) (readingOf kind s .entries)) (m : masks ≡ sets (replicate 64 0) 0 (masksOf (readingOf kind s .entries))) (f : firsts ≡ sets (replicate 2048 0) 0 (rowsOf (readingOf kind s .entries))) where
-  pub number-said : (k : Key) (v : ℕ) → v ≡ getD heads (rank k) 0 → v ≡ numberFor k (readingOf kind s .entries)
+  number-said : (k : Key) (v : ℕ) → v ≡ getD heads (rank k) 0 → v ≡ numberFor k (readingOf kind s .entries)
   number-said k v q = q ∙ ap (λ l. getD l (rank k) 0) h ∙ number-kept k (λ f. f .first) (readingOf kind s .entries)
 
   masks-said : take (p .masks) masks ≡ masksOf (readingOf kind s .entries)

@@ -59,7 +59,7 @@ module _ {r : Scanned} (kind : Kind) (s : List ℕ) (p : Place) (a : r ≡ readi
   pub ends-whole : readingOf kind s .end ≡ Whole p
   ends-whole = sym a ∙ b
 
-  pub read-lists : Read kind s p
+  read-lists : Read kind s p
   read-lists = read-whole kind s p ends-whole
 
   pub masks-within : (l : List ℕ) → l ≡ sets (replicate 64 0) 0 (masksOf (readingOf kind s .entries)) → p .masks ≤ length l

@@ -25,7 +25,7 @@ use Rattle.keys.specs.Keys.{name}
 use Rattle.writing.specs.Numerals.{glyph, lastDigits, numeral, characters}
 use Rattle.writing.specs.Writing.{numberLine, numberLines, sliceLine, sliceLines, full, headText, listText, refusedText}
 
-pub digits-length : (d base n : ℕ) → length (lastDigits d base n) ≤ d
+digits-length : (d base n : ℕ) → length (lastDigits d base n) ≤ d
 unfolding lastDigits
 digits-length zero base n = omega arith
 digits-length (suc d) base n = go (ltb n base) (digits-length d base (n / base))
@@ -47,10 +47,10 @@ pub line-parts : (base : ℕ) (k : List ℕ) (v : ℕ) → length (numberLine ba
 unfolding numberLine
 line-parts base k v = simp length-append (omega arith)
 
-pub line-length : (base : ℕ) (k : List ℕ) (v : ℕ) → length (numberLine base k v) ≤ length k + 21
+line-length : (base : ℕ) (k : List ℕ) (v : ℕ) → length (numberLine base k v) ≤ length k + 21
 line-length base k v = omega (arith, numeral-length base v, line-parts base k v)
 
-pub lines-length : (base : ℕ) (k vs : List ℕ) → length (numberLines base k vs) ≤ (length k + 21) * length vs
+lines-length : (base : ℕ) (k vs : List ℕ) → length (numberLines base k vs) ≤ (length k + 21) * length vs
 unfolding numberLines
 lines-length base k [] = omega arith
 lines-length base k (v ∷ vs) = omega (arith, line-length base k v, lines-length base k vs, length-append (numberLine base k v) (numberLines base k vs))
@@ -74,7 +74,7 @@ module _ (g : Settings) (masks : List ℕ) where
   unfolding headText name
   head-parts = simp length-append (omega arith)
 
-  pub head-length : length (headText g masks) ≤ 81 + 27 * length masks
+  head-length : length (headText g masks) ≤ 81 + 27 * length masks
   head-length =
       let p = head-parts in
       let c = line-length 10 (bytes "cells=") (g .cells) in
