@@ -2,9 +2,7 @@
 
 use crate::case::Case;
 use crate::space::{odd, rows, Space};
-
-/// The most slices of a window.
-const LONGEST: usize = 256;
+use second::LONGEST_WINDOW;
 
 /// What trying a state needs: the register, and the masks and bits of the stop's positions.
 struct Runner {
@@ -59,7 +57,7 @@ impl Runner {
 fn prefixes(case: &Case, table: &[Vec<u64>], start: usize) -> Vec<Space> {
     let mut spaces = vec![Space::all(case.cells)];
     let slices = case.specified[start..].iter().zip(&case.bits[start..]);
-    for ((&specified, &bits), row) in slices.zip(table).take(LONGEST) {
+    for ((&specified, &bits), row) in slices.zip(table).take(LONGEST_WINDOW) {
         let mut space = spaces[spaces.len() - 1].clone();
         if !space.keep_slice(row, specified, bits) {
             break;
@@ -96,7 +94,7 @@ fn longest(case: &Case, table: &[Vec<u64>], start: usize) -> Option<(usize, u64)
 
 /// The seeds of the case's slices as a set; or the slices of the longest start that can be cut.
 pub fn set(case: &Case) -> Result<Vec<u64>, usize> {
-    let table = rows(case, LONGEST);
+    let table = rows(case, LONGEST_WINDOW);
     let (mut seeds, mut start) = (Vec::new(), 0);
     while start < case.specified.len() {
         let (length, seed) = longest(case, &table, start).ok_or(start)?;

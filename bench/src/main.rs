@@ -42,7 +42,10 @@ use std::process::ExitCode;
 fn measured(limit: &str, run: impl Fn(f64) -> Result<(), String>) -> ExitCode {
     let done = match limit.parse::<f64>() {
         Ok(limit) if limit >= 1.0 => run(limit),
-        _ => Err("bench [SECONDS] [FOLDER], at least 1 second; bench part NAME SECONDS; or bench quick".to_string()),
+        _ => Err(
+            "bench [SECONDS] [FOLDER], at least 1 second; bench part NAME SECONDS; or bench quick"
+                .to_string(),
+        ),
     };
     match done {
         Ok(()) => ExitCode::SUCCESS,

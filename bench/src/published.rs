@@ -9,9 +9,7 @@
 
 use crate::case::Case;
 use crate::space::{rows, Space};
-
-/// The most slices of a window.
-const LONGEST: usize = 256;
+use second::LONGEST_WINDOW;
 
 /// The place of a slice that the procedure cannot encode, though it stands first in its window.
 #[derive(Debug, PartialEq)]
@@ -61,7 +59,7 @@ impl Procedure<'_> {
     fn window(&self, start: usize) -> (usize, u64) {
         let mut space = Space::all(self.case.cells);
         let (mut length, mut seed) = (0, 0);
-        let most = LONGEST.min(self.case.specified.len() - start);
+        let most = LONGEST_WINDOW.min(self.case.specified.len() - start);
         while length < most {
             let Some((next, closed)) = self.taken(&space, start + length, length) else {
                 break;
@@ -90,7 +88,7 @@ fn covers(case: &Case, start: usize, length: usize, seed: u64) -> bool {
 
 /// The number of seeds for a set. An outer error is a window that its seed does not cover.
 pub fn seeds(case: &Case) -> Result<Result<usize, Stuck>, String> {
-    let table = rows(case, LONGEST);
+    let table = rows(case, LONGEST_WINDOW);
     let procedure = Procedure { case, table };
     let (mut count, mut start) = (0, 0);
     while start < case.specified.len() {

@@ -6,6 +6,7 @@ use crate::columns::Column;
 use crate::measure::{measure, Limits};
 use crate::random::Random;
 use crate::sets::{some_positions, TAPS};
+use second::LONGEST_WINDOW;
 
 /// Registers of full period: cells, taps and chains.
 pub const REGISTERS: [(usize, u64, usize); 5] = [
@@ -18,9 +19,6 @@ pub const REGISTERS: [(usize, u64, usize); 5] = [
 
 /// The positions of the stop slice.
 pub const POSITIONS: [u32; 6] = [1, 2, 3, 4, 5, 6];
-
-/// The most slices of a window.
-const LONGEST: usize = 256;
 
 /// A window of so many slices of x, for a register with random masks and a random stop slice.
 pub fn window(register: (usize, u64, usize), positions: u32, length: usize) -> Case {
@@ -59,10 +57,10 @@ fn covered(
 
 /// The greatest length up to 256 that the library finds a seed for, each try within the limit; 0 if there is none.
 pub fn longest(register: (usize, u64, usize), positions: u32, limit: f64) -> Result<usize, String> {
-    if covered(register, positions, LONGEST, limit)? {
-        return Ok(LONGEST);
+    if covered(register, positions, LONGEST_WINDOW, limit)? {
+        return Ok(LONGEST_WINDOW);
     }
-    let (mut found, mut beyond) = (0, LONGEST);
+    let (mut found, mut beyond) = (0, LONGEST_WINDOW);
     while beyond - found > 1 {
         let middle = found + (beyond - found) / 2;
         if covered(register, positions, middle, limit)? {
@@ -77,7 +75,7 @@ pub fn longest(register: (usize, u64, usize), positions: u32, limit: f64) -> Res
 /// The lengths that are measured: one less, the greatest and one more, as far as they are lawful; of 256 only that.
 pub fn lengths(longest: usize) -> Vec<usize> {
     match longest {
-        LONGEST => vec![LONGEST],
+        LONGEST_WINDOW => vec![LONGEST_WINDOW],
         _ => (longest.saturating_sub(1).max(1)..=longest + 1).collect(),
     }
 }

@@ -34,7 +34,7 @@ pub fn room() -> Room {
 }
 
 /// The mask that reads before a step what `mask` reads after it.
-fn pull_back(taps: u64, mask: u64) -> u64 {
+fn pull(taps: u64, mask: u64) -> u64 {
     (mask >> 1) ^ (taps & (mask & 1).wrapping_neg())
 }
 
@@ -43,7 +43,7 @@ fn fill(taps: u64, masks: &[u64], rows: usize) -> Vec<u64> {
     let mut table = Vec::with_capacity(rows * masks.len());
     table.extend_from_slice(masks);
     for place in 0..(rows - 1) * masks.len() {
-        table.push(pull_back(taps, table[place]));
+        table.push(pull(taps, table[place]));
     }
     table
 }
