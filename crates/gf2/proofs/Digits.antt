@@ -2,7 +2,7 @@
 --     digit-lt, digit-zero, digit-suc     a digit is 0 or 1; the lowest; the one above
 --     digit-wide, digit-none     beyond the word every digit is 0, and so is every digit of 0
 --     digit-mod                  a digit of a remainder that has it
---     digit-and                  a digit of a conjunction is the lesser of the two
+--     digit-and, digit-or        a digit of a conjunction is the lesser of the two, and of a disjunction the greater
 --     words-equal                two words with the same digits are one
 --     xor-half, xor-low          the rest and the lowest digit of an exclusive or
 --     put-same, put-other, put-below     a word with a bit put into a cell that held 0: that cell, each other cell, and the width
@@ -13,11 +13,11 @@
 -- Assumes nothing.
 use mathlib.Core.Path.{_≡_, refl, sym, ap, _∙_, subst}
 use mathlib.Core.Bool.{Bool, true, false}
-use Prim.Native.Nat.{ℕ, zero, suc, _+_, _-_, _*_, _/_, _%_, _^_, _≤_, _<_, min}
+use Prim.Native.Nat.{ℕ, zero, suc, _+_, _-_, _*_, _/_, _%_, _^_, _≤_, _<_, min, max}
 use native.Mathlib.Nat.{div-div-eq-div-mul, div-one, zero-div, le-div-iff-mul-le, div-eq-of-lt, mul-left-comm}
 use native.Mathlib.Omega.{arith}
 use lib.Arith.{bin-ind}
-use lib.Bits.{bitAnd, bitXor, differ, and-step, xor-step, and-shr}
+use lib.Bits.{bitAnd, bitOr, bitXor, differ, and-step, or-step, xor-step, and-shr, or-shr}
 use lib.Dec.{leb, ltb}
 use lib.Pow.{pow-pos, pow-mono, field, mod-mod-pow}
 use borrow.Author.Tests.{leb-true, leb-false, lt-leb, lt-ltb, le-ltb}
@@ -51,6 +51,10 @@ digit-mod x i n h =
 pub digit-and : (a b i : ℕ) → digit (bitAnd a b) i ≡ min (digit a i) (digit b i)
 unfolding digit
 digit-and a b i = ap (λ (x : ℕ). x % 2) (and-shr a b i) ∙ (let e = and-step (a / 2 ^ i) (b / 2 ^ i) in omega arith)
+
+pub digit-or : (a b i : ℕ) → digit (bitOr a b) i ≡ max (digit a i) (digit b i)
+unfolding digit
+digit-or a b i = ap (λ (x : ℕ). x % 2) (or-shr a b i) ∙ (let e = or-step (a / 2 ^ i) (b / 2 ^ i) in omega arith)
 
 pub digit-none : (i : ℕ) → digit 0 i ≡ 0
 unfolding digit

@@ -1,6 +1,6 @@
 -- `search::column_of` meets its contract. Assumes nothing.
 use lib.Seq.{length-take-le}
-use Rattle.search.proofs.Sifting.{column-yes, column-no}
+use Rattle.search.proofs.Words.{column-yes, column-no}
 use native.Mathlib.Omega.{arith}
 use mathlib.Core.Path.{refl, sym}
 use borrow.Author.Needs.{needs}

@@ -5,7 +5,7 @@ use Prim.Native.Nat.{_-_, _+_, _*_, _≤_}
 use lib.ListN.{length}
 use Rattle.search.specs.Leaf.{Kills}
 use Rattle.search.proofs.Reading.{row-fits}
-use Rattle.search.proofs.Sifting.{kills-none, kills-row, kills-fewer}
+use Rattle.search.proofs.Killing.{kills-none, kills-row, kills-fewer}
 use Rattle.search.proofs.dead_lanes.Statement.{statement}
 use Rattle.search.proofs.dead_lanes.Tie as tie
 

@@ -7,7 +7,7 @@ use Prim.Native.Nat.{_-_, _+_, _*_, _≤_}
 use lib.ListN.{length, take}
 use Rattle.search.specs.Leaf.{Filled}
 use Rattle.search.proofs.Reading.{row-fits}
-use Rattle.search.proofs.Sifting.{filled-none, filled-row, filled-same}
+use Rattle.search.proofs.Words.{filled-none, filled-row, filled-same}
 use Rattle.search.proofs.fill.Statement.{statement}
 use Rattle.search.proofs.fill.Tie as tie
 

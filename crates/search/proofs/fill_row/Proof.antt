@@ -7,7 +7,7 @@ use native.Mathlib.Omega.{arith}
 use mathlib.Core.Path.{refl, _∙_}
 use Prim.Native.Nat.{_-_, _+_}
 use lib.ListN.{take, length-set}
-use Rattle.search.proofs.Sifting.{Filling, filling-start, filling-next, filling-end, set-before}
+use Rattle.search.proofs.Words.{Filling, filling-start, filling-next, filling-end, set-before}
 use Rattle.search.proofs.fill_row.Statement.{statement}
 use Rattle.search.proofs.fill_row.Tie as tie
 

@@ -1,6 +1,6 @@
 -- `search::lanes_of` meets its contract. Assumes nothing.
 use mathlib.Core.Path.{refl}
-use Rattle.search.proofs.Sifting.{lanes-yes, lanes-no}
+use Rattle.search.proofs.Killing.{lanes-yes, lanes-no}
 use borrow.Author.Needs.{needs}
 use Rattle.search.proofs.lanes_of.Statement.{statement}
 use Rattle.search.proofs.lanes_of.Tie as tie

@@ -5,7 +5,7 @@ use native.Mathlib.Omega.{arith}
 use mathlib.Core.Path.{_≡_, subst}
 use Prim.Native.Nat.{ℕ, _+_, _-_}
 use Rattle.gf2.proofs.Digits.{digit-none}
-use Rattle.search.proofs.Sifting.{Showing, showing-start, showing-next}
+use Rattle.search.proofs.Killing.{Showing, showing-start, showing-next}
 use Rattle.search.proofs.showing.Statement.{statement}
 use Rattle.search.proofs.showing.Tie as tie
 
