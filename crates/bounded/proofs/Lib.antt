@@ -1,4 +1,4 @@
--- The laws of tests and of bounded search.
+-- The laws of tests, of bounded search, and of lists written into a buffer.
 
 pub mod Tests
 pub mod Search

@@ -1,4 +1,4 @@
--- Covering, the settings of a call, the windows of a set, and the seed of a single window.
+-- Covering, the rules of windows, the windows of a set, and the seed of a single window.
 pub mod Covering
 pub mod Rules
 pub mod Windows

@@ -1,4 +1,4 @@
--- The laws of digits, of parity and of sums.
+-- The laws of digits, of ones, of parity and of sums.
 
 pub mod Digits
 pub mod Ones

@@ -1,6 +1,7 @@
 -- The laws of words of lanes.
 --     lane-word           lane i of a word is the fact about i
 --     word-is             a word of 64 bits with these lanes is that word
+--     each, digit-test, digit-each     a test of all lanes, computed
 --     all-lanes           every lane of the full word is set
 --     reading-lane        lane i of a reading is the parity of member number i
 --     table-digits        the words of the six digits of a number
