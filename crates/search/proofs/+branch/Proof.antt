@@ -17,10 +17,10 @@ use Rattle.search.proofs.+branch.Tie.{close}
 use Rattle.search.proofs.branch.Reads as branch
 use Rattle.search.proofs.branch.Kinds as branch-kinds
 use Rattle.search.proofs.+branch.Lts-branch as branch-lts
-use Rattle.search.proofs.first_shown.Reads as first-shown-reads
-use Rattle.search.proofs.is_leaf.Reads as is-leaf-reads
-use Rattle.search.proofs.leaf.Reads as leaf-reads
-use Rattle.search.proofs.reached.Reads as reached-reads
+use Rattle.search.proofs.rows.first_shown.Reads as first-shown-reads
+use Rattle.search.proofs.leaves.is_leaf.Reads as is-leaf-reads
+use Rattle.search.proofs.leaves.leaf.Reads as leaf-reads
+use Rattle.search.proofs.lower.reached.Reads as reached-reads
 use Rattle.space.proofs.take_out.Reads as take-out-reads
 
 abbrev μ-branch : Measures 1 branch-kinds.ps ℕ

@@ -1,9 +1,9 @@
--- `search::lanes_of` meets its contract. Assumes nothing.
+-- `search::leaves::lanes_of` meets its contract. Assumes nothing.
 use mathlib.Core.Path.{refl}
 use Rattle.search.proofs.Killing.{lanes-yes, lanes-no}
 use borrow.Author.Needs.{needs}
-use Rattle.search.proofs.lanes_of.Statement.{statement}
-use Rattle.search.proofs.lanes_of.Tie as tie
+use Rattle.search.proofs.leaves.lanes_of.Statement.{statement}
+use Rattle.search.proofs.leaves.lanes_of.Tie as tie
 
 mul-low : tie.Need-mul-low
 mul-low c = search needs

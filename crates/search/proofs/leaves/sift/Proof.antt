@@ -1,4 +1,4 @@
--- `search::sift` meets its contract. Assumes nothing.
+-- `search::leaves::sift` meets its contract. Assumes nothing.
 use mathlib.Core.Path.{sym, _∙_}
 use mathlib.Core.Logic.{⊎-elim}
 use Prim.Native.Nat.{_-_, _+_, _*_, _≤_, _<_}
@@ -9,8 +9,8 @@ use borrow.Author.Needs.{needs}
 use Rattle.gf2.proofs.Digits.{one-shifted}
 use Rattle.search.proofs.Killing.{dead-clear}
 use Rattle.search.proofs.Sifting.{NotClear, group-first, group-passed, group-dead, found-none, found-number, found-before, groups-few, groups-whole}
-use Rattle.search.proofs.sift.Statement.{statement}
-use Rattle.search.proofs.sift.Tie as tie
+use Rattle.search.proofs.leaves.sift.Statement.{statement}
+use Rattle.search.proofs.leaves.sift.Tie as tie
 
 abbrev Inv-loop : tie.InvT-loop
 Inv-loop pattern table rows lowest vectors free words count before columns groups group₀ group = (group ≤ 64) × NotClear pattern table rows lowest (take free vectors) (group * 64)

@@ -1,9 +1,9 @@
--- `search::lower_of` meets its contract. Assumes nothing.
+-- `search::lower::lower_of` meets its contract. Assumes nothing.
 use Rattle.search.proofs.Finding.{lower-reached, lower-not}
 use mathlib.Core.Path.{sym, _∙_}
 use borrow.Author.Needs.{needs}
-use Rattle.search.proofs.lower_of.Statement.{statement}
-use Rattle.search.proofs.lower_of.Tie as tie
+use Rattle.search.proofs.lower.lower_of.Statement.{statement}
+use Rattle.search.proofs.lower.lower_of.Tie as tie
 
 reached-requires : tie.Need-reached-requires
 reached-requires c κs = search needs

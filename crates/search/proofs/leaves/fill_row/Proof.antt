@@ -1,4 +1,4 @@
--- `search::fill_row` meets its contract. Assumes nothing.
+-- `search::leaves::fill_row` meets its contract. Assumes nothing.
 use mathlib.Core.Bool.{false}
 use Rattle.bounded.proofs.Tests.{clash}
 use lib.ListN.{set}
@@ -8,8 +8,8 @@ use mathlib.Core.Path.{refl, _∙_}
 use Prim.Native.Nat.{_-_, _+_}
 use lib.ListN.{take, length-set}
 use Rattle.search.proofs.Words.{Filling, filling-start, filling-next, filling-end, set-before}
-use Rattle.search.proofs.fill_row.Statement.{statement}
-use Rattle.search.proofs.fill_row.Tie as tie
+use Rattle.search.proofs.leaves.fill_row.Statement.{statement}
+use Rattle.search.proofs.leaves.fill_row.Tie as tie
 
 abbrev Inv-loop : tie.InvT-loop
 Inv-loop table row lowest vectors free words₀ first columns start bits₀ column₀ place₀ words bits column place = Filling (record { columns = columns; bits = bits₀ }) table row lowest (take free vectors) words₀ first words bits column place

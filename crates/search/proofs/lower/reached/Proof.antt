@@ -1,7 +1,7 @@
--- `search::reached` meets its contract. Assumes nothing.
+-- `search::lower::reached` meets its contract. Assumes nothing.
 use borrow.Author.Needs.{needs}
-use Rattle.search.proofs.reached.Statement.{statement}
-use Rattle.search.proofs.reached.Tie as tie
+use Rattle.search.proofs.lower.reached.Statement.{statement}
+use Rattle.search.proofs.lower.reached.Tie as tie
 
 enum-known-found : tie.Need-enum-known-found
 enum-known-found c = search needs

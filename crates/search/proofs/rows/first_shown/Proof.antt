@@ -1,4 +1,4 @@
--- `search::first_shown` meets its contract. Assumes nothing.
+-- `search::rows::first_shown` meets its contract. Assumes nothing.
 use mathlib.Core.Path.{_≡_, sym, _∙_}
 use mathlib.Core.Bool.{false}
 use Prim.Native.Nat.{ℕ, _-_, _≤_}
@@ -10,8 +10,8 @@ use Rattle.bounded.specs.Bounded.{NoneBelow}
 use Rattle.search.specs.Clauses.{shown}
 use Rattle.search.proofs.Reading.{row-fits}
 use Rattle.search.proofs.Branching.{shown-first, shown-never}
-use Rattle.search.proofs.first_shown.Statement.{statement}
-use Rattle.search.proofs.first_shown.Tie as tie
+use Rattle.search.proofs.rows.first_shown.Statement.{statement}
+use Rattle.search.proofs.rows.first_shown.Tie as tie
 
 abbrev Inv-loop : tie.InvT-loop
 Inv-loop pattern table rows state row₀ row = (row ≤ rows) × NoneBelow (λ t. shown pattern table t state) row

@@ -1,4 +1,4 @@
--- `search::dead_lanes` meets its contract. Assumes nothing.
+-- `search::leaves::dead_lanes` meets its contract. Assumes nothing.
 use borrow.Author.Needs.{needs}
 use native.Mathlib.Omega.{arith}
 use Prim.Native.Nat.{_-_, _+_, _*_, _≤_}
@@ -6,8 +6,8 @@ use lib.ListN.{length}
 use Rattle.search.specs.Leaf.{Kills}
 use Rattle.search.proofs.Reading.{row-fits}
 use Rattle.search.proofs.Killing.{kills-none, kills-row, kills-fewer}
-use Rattle.search.proofs.dead_lanes.Statement.{statement}
-use Rattle.search.proofs.dead_lanes.Tie as tie
+use Rattle.search.proofs.leaves.dead_lanes.Statement.{statement}
+use Rattle.search.proofs.leaves.dead_lanes.Tie as tie
 
 abbrev Inv-loop : tie.InvT-loop
 Inv-loop words columns count group width dead₀ row₀ dead row = (row ≤ count) × Kills words columns row group dead

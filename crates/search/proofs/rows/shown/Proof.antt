@@ -1,4 +1,4 @@
--- `search::shown` meets its contract. Assumes nothing.
+-- `search::rows::shown` meets its contract. Assumes nothing.
 use mathlib.Core.Path.{_≡_, refl, sym, _∙_}
 use Prim.Native.Nat.{_-_, _≤_}
 use native.Mathlib.Omega.{arith}
@@ -6,8 +6,8 @@ use lib.ListN.{drop}
 use borrow.Author.Needs.{needs}
 use Rattle.search.specs.Clauses.{reads as readsOf, shown, row as rowOf}
 use Rattle.search.proofs.Reading.{reads-next, reads-differs, reads-end}
-use Rattle.search.proofs.shown.Statement.{statement}
-use Rattle.search.proofs.shown.Tie as tie
+use Rattle.search.proofs.rows.shown.Statement.{statement}
+use Rattle.search.proofs.rows.shown.Tie as tie
 
 abbrev Inv-loop : tie.InvT-loop
 Inv-loop table row state columns first bits₀ column₀ bits column = (column ≤ columns) × (readsOf (rowOf columns table row) bits₀ state ≡ readsOf (drop column (rowOf columns table row)) bits state)

@@ -1,4 +1,4 @@
--- `search::fill` meets its contract. Assumes nothing.
+-- `search::leaves::fill` meets its contract. Assumes nothing.
 use mathlib.Core.Logic.{⊎-elim}
 use borrow.Author.Needs.{needs}
 use native.Mathlib.Omega.{arith}
@@ -8,8 +8,8 @@ use lib.ListN.{length, take}
 use Rattle.search.specs.Leaf.{Filled}
 use Rattle.search.proofs.Reading.{row-fits}
 use Rattle.search.proofs.Words.{filled-none, filled-row, filled-same}
-use Rattle.search.proofs.fill.Statement.{statement}
-use Rattle.search.proofs.fill.Tie as tie
+use Rattle.search.proofs.leaves.fill.Statement.{statement}
+use Rattle.search.proofs.leaves.fill.Tie as tie
 
 abbrev Inv-loop : tie.InvT-loop
 Inv-loop pattern table rows lowest vectors free words₀ columns width most count₀ row₀ words count row = (row ≤ rows) × (count ≤ row) × (length words ≡ 512) × Filled pattern table rows lowest (take free vectors) words count

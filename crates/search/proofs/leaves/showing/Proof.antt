@@ -1,4 +1,4 @@
--- `search::showing` meets its contract. Assumes nothing.
+-- `search::leaves::showing` meets its contract. Assumes nothing.
 use lib.Bits.{bitAnd}
 use borrow.Author.Needs.{needs}
 use native.Mathlib.Omega.{arith}
@@ -6,8 +6,8 @@ use mathlib.Core.Path.{_≡_, subst}
 use Prim.Native.Nat.{ℕ, _+_, _-_}
 use Rattle.gf2.proofs.Digits.{digit-none}
 use Rattle.search.proofs.Killing.{Showing, showing-start, showing-next}
-use Rattle.search.proofs.showing.Statement.{statement}
-use Rattle.search.proofs.showing.Tie as tie
+use Rattle.search.proofs.leaves.showing.Statement.{statement}
+use Rattle.search.proofs.leaves.showing.Tie as tie
 
 abbrev Inv-loop : tie.InvT-loop
 Inv-loop words first columns group two lanes₀ column₀ place₀ lanes column place = Showing words first columns group lanes column place

@@ -1,10 +1,10 @@
--- `search::is_leaf` meets its contract. Assumes nothing.
+-- `search::leaves::is_leaf` meets its contract. Assumes nothing.
 use mathlib.Core.Path.{refl, sym, _∙_}
 use mathlib.Core.Bool.{false}
 use Rattle.bounded.proofs.Tests.{within-yes, clash}
 use borrow.Author.Needs.{needs}
-use Rattle.search.proofs.is_leaf.Statement.{statement}
-use Rattle.search.proofs.is_leaf.Tie as tie
+use Rattle.search.proofs.leaves.is_leaf.Statement.{statement}
+use Rattle.search.proofs.leaves.is_leaf.Tie as tie
 
 within-requires : tie.Need-within-requires
 within-requires c κs = search needs

@@ -1,4 +1,4 @@
--- `search::clear_lane` meets its contract. Assumes nothing.
+-- `search::leaves::clear_lane` meets its contract. Assumes nothing.
 use mathlib.Core.Logic.{⊎-elim}
 use Rattle.gf2.proofs.Digits.{digit-lt}
 use borrow.Author.Count.{below-more}
@@ -11,8 +11,8 @@ use mathlib.Core.Bool.{false}
 use lib.ListN.{take}
 use Rattle.space.specs.Space.{pick}
 use Rattle.search.specs.Clauses.{clear}
-use Rattle.search.proofs.clear_lane.Statement.{statement}
-use Rattle.search.proofs.clear_lane.Tie as tie
+use Rattle.search.proofs.leaves.clear_lane.Statement.{statement}
+use Rattle.search.proofs.leaves.clear_lane.Tie as tie
 
 abbrev Inv-loop : tie.InvT-loop
 Inv-loop pattern table rows lowest vectors free group dead base lane₀ lane = (lane ≤ 64) × ((j : ℕ) → j < lane → clear pattern table rows (pick lowest (take free vectors) (base + j)) ≡ false)

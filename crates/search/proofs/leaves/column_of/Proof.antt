@@ -1,11 +1,11 @@
--- `search::column_of` meets its contract. Assumes nothing.
+-- `search::leaves::column_of` meets its contract. Assumes nothing.
 use lib.Seq.{length-take-le}
 use Rattle.search.proofs.Words.{column-yes, column-no}
 use native.Mathlib.Omega.{arith}
 use mathlib.Core.Path.{refl, sym}
 use borrow.Author.Needs.{needs}
-use Rattle.search.proofs.column_of.Statement.{statement}
-use Rattle.search.proofs.column_of.Tie as tie
+use Rattle.search.proofs.leaves.column_of.Statement.{statement}
+use Rattle.search.proofs.leaves.column_of.Tie as tie
 
 slice-aggregate-reading : tie.Need-slice-aggregate-reading
 slice-aggregate-reading c = let v = c .before .before .args .vectors .now in sym (length-take-le 6 v (omega arith))
