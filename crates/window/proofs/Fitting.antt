@@ -4,6 +4,7 @@
 --     meet-front, meet-at     who meets more slices meets fewer, and each of them
 --     Fitted            what the loop keeps: the members that meet the slices so far
 --     fitted-start, fitted-next, fitted-none, fitted-end     at the start, after a slice, where nothing is left, and at the end
+--     most-end          there are no more slices than all
 --     closed-yes, closed-no     the closing stop after the slices, or none
 --     allowed-closed    the slices and the closing stop
 -- Assumes nothing.
@@ -23,7 +24,7 @@ use Rattle.slices.specs.declared.TestSlice.{TestSlice}
 use Rattle.slices.specs.Slices.{paired, badSlices}
 use Rattle.slices.proofs.Causes.{sliceAt}
 use Rattle.slices.proofs.Formed.{slices-length, slices-at}
-use Rattle.window.specs.Code.{meets, allMeet, closed, allowed, Narrows}
+use Rattle.window.specs.Code.{meets, allMeet, closed, allowed, Narrows, Most}
 use Rattle.window.proofs.Narrowing.{narrows-none, narrows-same, narrows-then}
 
 pub row-part : (c : ℕ) (table : List ℕ) (t : ℕ) → take (t * c + c - t * c) (drop (t * c) table) ≡ row c table t
@@ -90,6 +91,9 @@ module _ (c : ℕ) (table : List ℕ) where
 
     pub fitted-end : (k : ℕ) (z : Space) (ws : List ℕ) → length ps ≤ k → Fitted w x us k z ws → Narrows (allMeet c table 0 w) x us z ws
     fitted-end k z ws l f = narrows-same (Q k) (allMeet c table 0 w) x us z ws (λ s. ap (λ (v : List TestSlice). allMeet c table 0 v s) (take-all k w (omega (arith, long)))) f
+
+pub most-end : (P : List TestSlice → ℕ → Bool) (w : List TestSlice) (cells k : ℕ) → k ≡ length w → Most P w cells k
+most-end P w cells k e = record { within = omega arith; more = λ j s l m u. absurd (omega arith) }
 
 -- ---- with the closing stop, and without
 

@@ -3,7 +3,7 @@
 --     held-new           a space that is written
 --     Growing            what the loop keeps: the states that meet the slices so far, and the spaces that are written
 --     growing-start, growing-next, growing-beyond     at the start, after a slice whose space is written, and after one whose space is not
---     grew-stop, grew-end     where nothing is left, and at the end
+--     grown-stop, grown-end     where nothing is left, and at the end
 --     grown-part         the spaces of a part that is cut off
 --     held-part, held-whole     a space as that of a part, and with its vectors
 --     storing-start, storing-next, storing-before, storing-end     of a loop that writes the vectors of a space
@@ -11,22 +11,21 @@
 -- Assumes nothing.
 use mathlib.Core.Path.{_≡_, refl, sym, ap, ap₂, _∙_, subst}
 use mathlib.Core.Logic.{_⊎_, inl, inr, ⊎-elim}
-use mathlib.Core.Bool.{Bool, true, false, _&&_}
+use mathlib.Core.Bool.{Bool, true, false}
 use mathlib.Core.List.{List}
 use Prim.Native.Nat.{ℕ, suc, _+_, _-_, _*_, _/_, _^_, _≤_, _<_, min}
 use native.Mathlib.Omega.{arith}
 use lib.ListN.{getD, length, take, drop, set, length-drop, length-set, length-take}
 use lib.Seq.{ext-getD, length-take-le, take-all, take-take, getD-drop, getD-take, getD-set-same, getD-set-other}
 use borrow.Author.Count.{below-more}
-use Rattle.bounded.proofs.Tests.{both, clash, eq-or-not, fails, lt-or-le}
+use Rattle.bounded.proofs.Tests.{eq-or-not, lt-or-le}
 use Rattle.space.specs.declared.Space.{Space}
-use Rattle.search.specs.Clauses.{clear}
 use Rattle.search.specs.declared.Pattern.{Pattern}
 use Rattle.slices.specs.declared.TestSlice.{TestSlice}
 use Rattle.slices.specs.Slices.{paired, badSlices}
 use Rattle.slices.proofs.Formed.{slices-length, paired-take}
-use Rattle.window.specs.Code.{allMeet, allStates, unitsOf, Narrows, heldVectors, Holds, HeldAt, Grew, Unquiet, Grown}
-use Rattle.window.proofs.Fitting.{Fitted, fitted-start, fitted-none}
+use Rattle.window.specs.Code.{allMeet, allStates, unitsOf, Narrows, heldVectors, Holds, HeldAt, Held, quietMeet, Most, Grown}
+use Rattle.window.proofs.Fitting.{Fitted, fitted-start, fitted-none, most-end}
 use Rattle.window.proofs.Seeds.{states-complete}
 
 -- the vectors of a space lie before the place a
@@ -67,7 +66,7 @@ module _ (c : ℕ) (table : List ℕ) (w : List TestSlice) (cells : ℕ) where
     pub long : length spaces ≡ n
     pub some : y .some ≡ true
     pub fitted : Fitted c table w (allStates cells) (unitsOf cells) k y vs
-    pub held : (j : ℕ) → 0 < j → j ≤ k → j ≤ n / 66 → HeldAt c table w cells spaces j
+    pub held : Held c table w cells spaces k
 
   pub growing-start : (spaces : List ℕ) → Growing (length spaces) 0 (allStates cells) (unitsOf cells) spaces
   growing-start spaces = record {
@@ -85,41 +84,42 @@ module _ (c : ℕ) (table : List ℕ) (w : List TestSlice) (cells : ℕ) where
       fitted = f;
       held = λ j p b t. ⊎-elim
           (λ q. subst (HeldAt c table w cells new) (sym q) (held-new new (k + 1) z ws (let u : k * 66 ≡ (k + 1 - 1) * 66 = omega arith in subst (λ (a : ℕ). Holds new a (z .lowest) (z .free) ws) u h) e f))
-          (λ ne. held-same spaces new (k * 66) j (omega arith) l s (g .held j p (omega arith) t))
+          (λ ne. held-same spaces new (k * 66) j (omega arith) l s (g .held j p (omega arith) (subst (λ (m : ℕ). j ≤ m / 66) l t)))
           (eq-or-not j (k + 1));
     }
 
     pub growing-beyond : n / 66 ≤ k → Growing n (k + 1) z ws spaces
-    growing-beyond h = record { long = g .long; some = e; fitted = f; held = λ j p b t. g .held j p (omega arith) t }
+    growing-beyond h = record { long = g .long; some = e; fitted = f; held = λ j p b t. g .held j p (omega (arith, ap (λ (m : ℕ). m / 66) (g .long))) t }
 
 module _ (c : ℕ) (table : List ℕ) (ps bs : List ℕ) (b : badSlices c ps bs ≡ false) (cells : ℕ) (few : cells ≤ 64) where
   abbrev w : List TestSlice
   w = paired ps bs
 
-  pub grew-stop : (n k : ℕ) (y : Space) (vs spaces : List ℕ) (z : Space) (ws : List ℕ) → k < length ps → Growing c table w cells n k y vs spaces
-      → Fitted c table w (allStates cells) (unitsOf cells) (k + 1) z ws → z .some ≡ false → Grew c table w cells spaces k
-  grew-stop n k y vs spaces z ws h g f e = record {
-    within = omega (arith, slices-length c ps bs b);
-    held = λ j h b t. g .held j h b (omega (arith, ap (λ (m : ℕ). m / 66) (g .long)));
-    more = λ j s l m u. fitted-none c table ps bs b (allStates cells) (unitsOf cells) (k + 1) z ws f e j s (omega arith) (states-complete cells few s u);
+  pub grown-stop : (n k : ℕ) (y : Space) (vs spaces : List ℕ) (z : Space) (ws : List ℕ) → k < length ps → Growing c table w cells n k y vs spaces
+      → Fitted c table w (allStates cells) (unitsOf cells) (k + 1) z ws → z .some ≡ false → Grown (allMeet c table 0) c table w cells spaces k
+  grown-stop n k y vs spaces z ws h g f e = record {
+    most = record {
+      within = omega (arith, slices-length c ps bs b);
+      more = λ j s l m u. fitted-none c table ps bs b (allStates cells) (unitsOf cells) (k + 1) z ws f e j s (omega arith) (states-complete cells few s u);
+    };
+    held = g .held;
   }
 
-  pub grew-end : (n k : ℕ) (y : Space) (vs spaces : List ℕ) → k ≤ length ps → length ps ≤ k → Growing c table w cells n k y vs spaces → Grew c table w cells spaces k
-  grew-end n k y vs spaces h l g = record {
-    within = omega (arith, slices-length c ps bs b);
-    held = λ j h b t. g .held j h b (omega (arith, ap (λ (m : ℕ). m / 66) (g .long)));
-    more = λ j s m n u. absurd (omega (arith, slices-length c ps bs b));
+  pub grown-end : (n k : ℕ) (y : Space) (vs spaces : List ℕ) → k ≤ length ps → length ps ≤ k → Growing c table w cells n k y vs spaces → Grown (allMeet c table 0) c table w cells spaces k
+  grown-end n k y vs spaces h l g = record {
+    most = most-end (allMeet c table 0) w cells k (omega (arith, slices-length c ps bs b));
+    held = g .held;
   }
 
 -- the spaces of a part that is cut off where no state is quiet any more
-pub grown-part : (c : ℕ) (table : List ℕ) (p : Pattern) (clauses ps bs : List ℕ) (b : badSlices c ps bs ≡ false) (cells : ℕ) (spaces : List ℕ) (q k : ℕ) → Unquiet c table p clauses (paired ps bs) cells q
-    → Grew c table (paired (take q ps) (take q bs)) cells spaces k → Grown c table p clauses (paired ps bs) cells spaces k
+pub grown-part : (c : ℕ) (table : List ℕ) (p : Pattern) (clauses ps bs : List ℕ) (b : badSlices c ps bs ≡ false) (cells : ℕ) (spaces : List ℕ) (q k : ℕ) → Most (quietMeet c table p clauses) (paired ps bs) cells q
+    → Grown (allMeet c table 0) c table (paired (take q ps) (take q bs)) cells spaces k → Grown (quietMeet c table p clauses) c table (paired ps bs) cells spaces k
+unfolding quietMeet
 grown-part c table p clauses ps bs b cells spaces q k u g = record {
-  unquiet = record {
+  most = record {
     within = omega (arith, u .within, few);
     more = λ j s l m h. ⊎-elim
-        (λ le. fails (allMeet c table 0 (take j w) s && clear p clauses j s) (λ t. clash (allMeet c table 0 (take j w) s) (both (allMeet c table 0 (take j w) s) (clear p clauses j s) t .0)
-        (subst (λ (v : List TestSlice). allMeet c table 0 v s ≡ false) (front j le) (g .more j s l (omega (arith, cut)) h))))
+        (λ le. let e : allMeet c table 0 (take j w) s ≡ false = subst (λ (v : List TestSlice). allMeet c table 0 v s ≡ false) (front j le) (g .most .more j s l (omega (arith, cut)) h) in rw e)
         (λ gt. u .more j s gt m h)
         (split j);
   };
@@ -134,7 +134,7 @@ grown-part c table p clauses ps bs b cells spaces q k u g = record {
     cut = ap length (paired-take q ps bs) ∙ length-take-le q (paired ps bs) (u .within)
 
     few : k ≤ q
-    few = omega (arith, g .within, cut)
+    few = omega (arith, g .most .within, cut)
 
     front : (j : ℕ) → j ≤ q → take j (paired (take q ps) (take q bs)) ≡ take j (paired ps bs)
     front j h = ap (take j) (paired-take q ps bs) ∙ take-take j q (paired ps bs) h

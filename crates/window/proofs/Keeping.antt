@@ -2,7 +2,7 @@
 --     keeps-none, keeps-then     nothing is forced; one after the other
 --     keeps-row          what a row forces
 --     Quiet, quiet-start, quiet-next     of a loop over the slices: every state that meets the slices so far and is clear in their rows is left
---     unquiet-stop, unquiet-end     where nothing is left, and at the end
+--     quiet-stop         where nothing is left
 -- Assumes nothing.
 use mathlib.Core.Path.{_≡_, refl, sym, ap, _∙_, subst}
 use mathlib.Core.Bool.{Bool, true, false, not, _&&_}
@@ -11,6 +11,7 @@ use Prim.Native.Nat.{ℕ, suc, _+_, _^_, _≤_, _<_}
 use native.Mathlib.Numerals.{add-one}
 use native.Mathlib.Omega.{arith}
 use lib.ListN.{length, take}
+use lib.Seq.{length-take-le}
 use borrow.Author.Tests.{not-true}
 use Rattle.bounded.proofs.Tests.{both, clash, fails}
 use Rattle.space.specs.declared.Space.{Space}
@@ -24,7 +25,7 @@ use Rattle.slices.proofs.Causes.{sliceAt}
 use Rattle.slices.proofs.Formed.{slices-length}
 use Rattle.forcing.specs.Forcing.{forced, forcedVectors}
 use Rattle.forcing.proofs.Forcing.{forced-sound, forced-complete, forced-rising}
-use Rattle.window.specs.Code.{meets, allMeet, allStates, unitsOf, Narrows, Keeps, Unquiet}
+use Rattle.window.specs.Code.{meets, allMeet, allStates, unitsOf, Narrows, Keeps, quietMeet, Most}
 use Rattle.window.proofs.Narrowing.{some-member}
 use Rattle.window.proofs.Fitting.{meet-front, meet-at}
 use Rattle.window.proofs.Seeds.{states-complete}
@@ -69,13 +70,12 @@ module _ (c : ℕ) (table : List ℕ) (p : Pattern) (clauses ps bs : List ℕ) (
       (n .complete s (q s l (meet-front c table w 0 k (k + 1) s (omega arith) a) f) (meet-at c table ps bs b (allStates cells) (unitsOf cells) k s h a))
       (clear-at p clauses s (k + 1) k e (omega arith))
 
-  pub unquiet-stop : (k : ℕ) (y : Space) (vs : List ℕ) → k < length ps → So (k + 1) y vs → y .some ≡ false → Unquiet c table p clauses w cells k
-  unquiet-stop k y vs h q e = record {
+  pub quiet-stop : (k : ℕ) (y : Space) (vs : List ℕ) → k < length ps → So (k + 1) y vs → y .some ≡ false → Most (quietMeet c table p clauses) w cells k
+  unfolding quietMeet
+  quiet-stop k y vs h q e = record {
     within = omega (arith, slices-length c ps bs b);
-    more = λ j s l m u. fails (allMeet c table 0 (take j w) s && clear p clauses j s) (λ t.
-        let d = both (allMeet c table 0 (take j w) s) (clear p clauses j s) t in
-        clash (y .some) (q s u (meet-front c table w 0 (k + 1) j s (omega arith) (d .0)) (clear-front p clauses s j (k + 1) (omega arith) (d .1)) .0) e);
+    more = λ j s l m u. fails (quietMeet c table p clauses (take j w) s) (λ t.
+        let n = length (take j w) in
+        let d = both (allMeet c table 0 (take j w) s) (clear p clauses n s) t in
+        clash (y .some) (q s u (meet-front c table w 0 (k + 1) j s (omega arith) (d .0)) (clear-front p clauses s n (k + 1) (omega (arith, length-take-le j w m)) (d .1)) .0) e);
   }
-
-  pub unquiet-end : (k : ℕ) → k ≤ length ps → length ps ≤ k → Unquiet c table p clauses w cells k
-  unquiet-end k h l = record { within = omega (arith, slices-length c ps bs b); more = λ j s m n u. absurd (omega (arith, slices-length c ps bs b)) }

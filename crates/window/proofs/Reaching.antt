@@ -13,7 +13,6 @@ use Prim.Native.Nat.{ℕ, zero, suc, _-_, _≤_, _<_}
 use native.Mathlib.Omega.{arith}
 use lib.Dec.{ltb}
 use lib.ListN.{length, take, length-take}
-use lib.Seq.{length-take-le}
 use borrow.Author.Tests.{lt-ltb}
 use Rattle.bounded.proofs.Tests.{clash, fails, both, eq-or-not}
 use Rattle.bounded.proofs.Search.{last-of, last-none}
@@ -27,7 +26,7 @@ use Rattle.covering.specs.Covering.{seedOf}
 use Rattle.covering.specs.Windows.{found}
 use Rattle.window.specs.Ready.{Ready}
 use Rattle.window.specs.Longest.{closesAt, seedFor, longest, reachOf}
-use Rattle.window.specs.Code.{Unquiet}
+use Rattle.window.specs.Code.{quietMeet, Most}
 use Rattle.window.proofs.Seeds.{unmet}
 
 module _ (M : Machine) (stop : TestSlice) (closing : Bool) (w : List TestSlice) where
@@ -76,14 +75,14 @@ module _ (g : Settings) (masks : List ℕ) (stop : TestSlice) (p : Pattern) (tab
   long : length w ≡ length ps
   long = slices-length (length masks) ps bs b
 
-  pub passed-start : (k : ℕ) → Unquiet (length masks) table p clauses w (g .cells) k → Passed M stop closing w k
+  pub passed-start : (k : ℕ) → Most (quietMeet (length masks) table p clauses) w (g .cells) k → Passed M stop closing w k
   unfolding seedFor
   passed-start k u = record {
     within = u .within;
     longer = λ j l m.
         unmet g masks stop p table clauses (suc (length ps)) (take j w) r (omega (arith, long, length-take j w))
         (rw (sym (paired-take j ps bs)) (slices-all (length masks) (take j ps) (take j bs) (slices-take (length masks) j ps bs b)))
-        (closesAt closing w j) (λ s h. rw (length-take-le j w m) (u .more j s l m h));
+        (closesAt closing w j) (λ s h. u .more j s l m h);
   }
 
   pub tried : (k : ℕ) (closes : Bool) → closes ≡ (closing || ltb k (length ps)) → seedOf M stop closes (paired (take k ps) (take k bs)) ≡ seedFor M stop closing w k

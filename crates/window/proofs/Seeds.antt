@@ -31,7 +31,7 @@ use Rattle.search.specs.Clauses.{clear}
 use Rattle.search.specs.Search.{foundOf, lowestClear}
 use Rattle.covering.specs.Covering.{covers, seedOf}
 use Rattle.window.specs.Ready.{Tabled, Ready}
-use Rattle.window.specs.Code.{allMeet, allowed, allStates, unitsOf, Narrows, Keeps}
+use Rattle.window.specs.Code.{allMeet, allowed, allStates, unitsOf, Narrows, Keeps, quietMeet}
 use Rattle.window.proofs.Covering.{covers-tables}
 
 tabled-fewer : (taps m n : ℕ) (masks table : List ℕ) → m ≤ n → Tabled taps n masks table → Tabled taps m masks table
@@ -112,9 +112,9 @@ module _ (g : Settings) (masks : List ℕ) (stop : TestSlice) (p : Pattern) (tab
         )))
 
   -- who covers a window meets its slices and is clear in their rows
-  pub unmet : (closing : Bool) → ((s : ℕ) → s < 2 ^ g .cells → (allMeet c table 0 w s && clear p clauses (length w) s) ≡ false) → seedOf M stop closing w ≡ none
-  unfolding seedOf allowed
+  pub unmet : (closing : Bool) → ((s : ℕ) → s < 2 ^ g .cells → quietMeet c table p clauses w s ≡ false) → seedOf M stop closing w ≡ none
+  unfolding seedOf allowed quietMeet
   unmet closing u = none-of (covers M stop closing w) (2 ^ g .cells) (λ s l.
       fails (covers M stop closing w s) (λ t.
       let a = both (allowed c table stop closing w s) (clear p clauses (length w) s) (sym (table-covers closing s) ∙ t) in
-      clash (allMeet c table 0 w s && clear p clauses (length w) s) (and-yes (allMeet c table 0 w s) (clear p clauses (length w) s) (both (allMeet c table 0 w s) _ (a .0) .0) (a .1)) (u s l)))
+      clash (quietMeet c table p clauses w s) (and-yes (allMeet c table 0 w s) (clear p clauses (length w) s) (both (allMeet c table 0 w s) _ (a .0) .0) (a .1)) (u s l)))

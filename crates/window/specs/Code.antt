@@ -9,9 +9,10 @@
 --     heldVectors spaces a f      f vectors of a space that is written from the place a on: its lowest member, how many vectors it has, and those
 --     Holds spaces a x f vs       the space of x and the vectors vs is written there
 --     HeldAt c table w cells spaces k     the states that meet the first k slices of w are the space number k, counted from 1
---     Grew c table w cells spaces k       so it is up to k slices, as far as there are entries, and no state meets more than k of them from the first on
---     Unquiet c table p clauses w cells k     no state meets more than k slices from the first on without showing the stop in one of them
---     Grown c table p clauses w cells spaces k     the spaces are written up to k slices, and no state meets more so
+--     Held c table w cells spaces k       so it is of each number of slices from 1 to k, as far as there are entries
+--     quietMeet c table p clauses w s     s meets the slices w and shows the stop in none of them
+--     Most P w cells k            w has k slices or more, and no state passes P on more than the first k of them
+--     Grown P c table w cells spaces k    besides, the spaces are written up to k slices
 use mathlib.Core.Path.{_≡_}
 use mathlib.Core.Bool.{Bool, true, false, not, _&&_, _||_}
 use mathlib.Core.List.{List, [], _∷_}
@@ -70,15 +71,16 @@ HeldAt c table w cells spaces k =
     Narrows (allMeet c table 0 (take k w)) (allStates cells) (unitsOf cells)
     (record { lowest = getD spaces ((k - 1) * 66) 0; free = getD spaces ((k - 1) * 66 + 1) 0; some = true }) (heldVectors spaces ((k - 1) * 66) (getD spaces ((k - 1) * 66 + 1) 0))
 
-pub record Grew (c : ℕ) (table : List ℕ) (w : List TestSlice) (cells : ℕ) (spaces : List ℕ) (k : ℕ) : Type 0 where
-  pub within : k ≤ length w
-  pub held : (j : ℕ) → 0 < j → j ≤ k → j ≤ length spaces / 66 → HeldAt c table w cells spaces j
-  pub more : (j s : ℕ) → k < j → j ≤ length w → s < 2 ^ cells → allMeet c table 0 (take j w) s ≡ false
+abbrev pub Held : ℕ → List ℕ → List TestSlice → ℕ → List ℕ → ℕ → Type 0
+Held c table w cells spaces k = (j : ℕ) → 0 < j → j ≤ k → j ≤ length spaces / 66 → HeldAt c table w cells spaces j
 
-pub record Unquiet (c : ℕ) (table : List ℕ) (p : Pattern) (clauses : List ℕ) (w : List TestSlice) (cells k : ℕ) : Type 0 where
-  pub within : k ≤ length w
-  pub more : (j s : ℕ) → k < j → j ≤ length w → s < 2 ^ cells → (allMeet c table 0 (take j w) s && clear p clauses j s) ≡ false
+unfoldable pub quietMeet : ℕ → List ℕ → Pattern → List ℕ → List TestSlice → ℕ → Bool
+quietMeet c table p clauses w s = allMeet c table 0 w s && clear p clauses (length w) s
 
-pub record Grown (c : ℕ) (table : List ℕ) (p : Pattern) (clauses : List ℕ) (w : List TestSlice) (cells : ℕ) (spaces : List ℕ) (k : ℕ) : Type 0 where
-  pub unquiet : Unquiet c table p clauses w cells k
-  pub held : (j : ℕ) → 0 < j → j ≤ k → j ≤ length spaces / 66 → HeldAt c table w cells spaces j
+pub record Most (P : List TestSlice → ℕ → Bool) (w : List TestSlice) (cells k : ℕ) : Type 0 where
+  pub within : k ≤ length w
+  pub more : (j s : ℕ) → k < j → j ≤ length w → s < 2 ^ cells → P (take j w) s ≡ false
+
+pub record Grown (P : List TestSlice → ℕ → Bool) (c : ℕ) (table : List ℕ) (w : List TestSlice) (cells : ℕ) (spaces : List ℕ) (k : ℕ) : Type 0 where
+  pub most : Most P w cells k
+  pub held : Held c table w cells spaces k

@@ -26,7 +26,7 @@ ghost use Rattle.search.specs.Search.{foundOf};
 ghost use Rattle.search.specs.Clauses.{clear, row as rowOf};
 ghost use Rattle.window.specs.Ready.{patternOf, Ready};
 ghost use Rattle.window.specs.Longest.{reachOf};
-ghost use Rattle.window.specs.Code.{allMeet, allStates, closed, Grew, Grown, HeldAt, heldVectors, Holds, Keeps, meets, Narrows, unitsOf, Unquiet};
+ghost use Rattle.window.specs.Code.{allMeet, allStates, closed, Grown, HeldAt, heldVectors, Holds, Keeps, meets, Most, Narrows, quietMeet, unitsOf};
 
 // The most entries of a table: rows 0 to 256 of 64 chains.
 pub const MOST_ENTRIES: usize = 16448;
@@ -274,7 +274,7 @@ fn grow(
     requires slices { ⌜ badSlices chains (now specified) (now bits) ≡ false ⌝ }
     requires table { ⌜ length (now specified) * chains ≤ length (now table) ⌝ }
     requires space { ⌜ cells ≤ 64 ⌝ }
-    ensures { λ r. ⌜ Grew chains (now (table .entry)) (paired (now (specified .entry)) (now (bits .entry))) cells (now (spaces .exit)) r ⌝ }
+    ensures { λ r. ⌜ Grown (allMeet chains (now (table .entry)) 0) chains (now (table .entry)) (paired (now (specified .entry)) (now (bits .entry))) cells (now (spaces .exit)) r ⌝ }
 {
     let places = spaces.len() / SPACE_ENTRIES;
     let mut vectors = space::units();
@@ -314,7 +314,7 @@ fn most_quiet(
     requires slices { ⌜ badSlices chains (now specified) (now bits) ≡ false ⌝ }
     requires table { ⌜ length (now specified) * chains ≤ length (now table) ⌝ }
     requires clauses { ⌜ (cells ≤ 64) × (length (now specified) * pattern .columns ≤ length (now clauses)) ⌝ }
-    ensures { λ r. ⌜ Unquiet chains (now (table .entry)) pattern (now (clauses .entry)) (paired (now (specified .entry)) (now (bits .entry))) cells r ⌝ }
+    ensures { λ r. ⌜ Most (quietMeet chains (now (table .entry)) pattern (now (clauses .entry))) (paired (now (specified .entry)) (now (bits .entry))) cells r ⌝ }
 {
     let mut vectors = space::units();
     let mut kept = Space {
@@ -447,7 +447,7 @@ fn descend(
 ) -> Window
     requires ready { ⌜ Ready settings (now masks) stop pattern (now table) (now clauses) (suc (length (now specified))) ⌝ }
     requires slices { ⌜ badSlices (length (now masks)) (now specified) (now bits) ≡ false ⌝ }
-    requires grown { ⌜ Grown (length (now masks)) (now table) pattern (now clauses) (paired (now specified) (now bits)) (settings .cells) (now spaces) most ⌝ }
+    requires grown { ⌜ Grown (quietMeet (length (now masks)) (now table) pattern (now clauses)) (length (now masks)) (now table) (paired (now specified) (now bits)) (settings .cells) (now spaces) most ⌝ }
     ensures { λ r. ⌜ r ≡ reachOf (machine settings (now (masks .entry))) stop closing (paired (now (specified .entry)) (now (bits .entry))) ⌝ }
 {
     let whole = specified.len();
@@ -490,7 +490,7 @@ fn reach_with(
 ) -> Window
     requires ready { ⌜ Ready settings (now masks) stop pattern (now table) (now clauses) (suc (length (now specified))) ⌝ }
     requires slices { ⌜ badSlices (length (now masks)) (now specified) (now bits) ≡ false ⌝ }
-    requires quiet { ⌜ Unquiet (length (now masks)) (now table) pattern (now clauses) (paired (now specified) (now bits)) (settings .cells) quiet ⌝ }
+    requires quiet { ⌜ Most (quietMeet (length (now masks)) (now table) pattern (now clauses)) (paired (now specified) (now bits)) (settings .cells) quiet ⌝ }
     ensures { λ r. ⌜ r ≡ reachOf (machine settings (now (masks .entry))) stop closing (paired (now (specified .entry)) (now (bits .entry))) ⌝ }
 {
     let met = grow(
@@ -531,7 +531,7 @@ fn reach_short(
 ) -> Window
     requires ready { ⌜ Ready settings (now masks) stop pattern (now table) (now clauses) (suc (length (now specified))) ⌝ }
     requires slices { ⌜ badSlices (length (now masks)) (now specified) (now bits) ≡ false ⌝ }
-    requires quiet { ⌜ Unquiet (length (now masks)) (now table) pattern (now clauses) (paired (now specified) (now bits)) (settings .cells) quiet ⌝ }
+    requires quiet { ⌜ Most (quietMeet (length (now masks)) (now table) pattern (now clauses)) (paired (now specified) (now bits)) (settings .cells) quiet ⌝ }
     ensures { λ r. ⌜ r ≡ reachOf (machine settings (now (masks .entry))) stop closing (paired (now (specified .entry)) (now (bits .entry))) ⌝ }
 {
     let mut spaces = [0u64; FEW_ENTRIES];
@@ -565,7 +565,7 @@ fn reach_long(
 ) -> Window
     requires ready { ⌜ Ready settings (now masks) stop pattern (now table) (now clauses) (suc (length (now specified))) ⌝ }
     requires slices { ⌜ badSlices (length (now masks)) (now specified) (now bits) ≡ false ⌝ }
-    requires quiet { ⌜ Unquiet (length (now masks)) (now table) pattern (now clauses) (paired (now specified) (now bits)) (settings .cells) quiet ⌝ }
+    requires quiet { ⌜ Most (quietMeet (length (now masks)) (now table) pattern (now clauses)) (paired (now specified) (now bits)) (settings .cells) quiet ⌝ }
     ensures { λ r. ⌜ r ≡ reachOf (machine settings (now (masks .entry))) stop closing (paired (now (specified .entry)) (now (bits .entry))) ⌝ }
 {
     let mut spaces = [0u64; MOST_SPACES];

@@ -29,7 +29,7 @@ loop-holds : tie.Need-loop-holds Inv-loop μ-loop
 loop-holds c =
     let s = c .before .before .before .before .before .before in
     let a = s .args in
-    (omega arith, passed-start (a .settings) (a .masks .now) (a .stop) (a .pattern) (a .table .now) (a .clauses .now) (a .specified .now) (a .bits .now) (s .pre .0) (s .pre .1 .0) (a .closing) (a .most) (s .pre .1 .1 .unquiet))
+    (omega arith, passed-start (a .settings) (a .masks .now) (a .stop) (a .pattern) (a .table .now) (a .clauses .now) (a .specified .now) (a .bits .now) (s .pre .0) (s .pre .1 .0) (a .closing) (a .most) (s .pre .1 .1 .most))
 
 slice-aggregate-length-seed : tie.Need-slice-aggregate-length-seed Inv-loop μ-loop
 slice-aggregate-length-seed c =

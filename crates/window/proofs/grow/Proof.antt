@@ -12,7 +12,7 @@ use Rattle.slices.proofs.Formed.{slices-each}
 use Rattle.search.proofs.Reading.{row-fits}
 use Rattle.window.specs.Code.{allStates, unitsOf}
 use Rattle.window.proofs.Fitting.{fitted-next}
-use Rattle.window.proofs.Growing.{Growing, growing-start, growing-next, growing-beyond, grew-stop, grew-end}
+use Rattle.window.proofs.Growing.{Growing, growing-start, growing-next, growing-beyond, grown-stop, grown-end}
 use Rattle.window.proofs.grow.Statement.{statement}
 use Rattle.window.proofs.grow.Tie as tie
 
@@ -70,7 +70,7 @@ returns c =
     let m = c .before .before .before .meet-row in
     let w = paired (a .specified .now) (a .bits .now) in
     let f = fitted-next (a .chains) (a .table .now) (a .specified .now) (a .bits .now) (s .pre .0) (allStates (a .cells)) (unitsOf (a .cells)) (l .slice) (l .kept) (take (l .kept .free) (l .vectors)) (m .result) (take (m .result .free) (m .last .0)) (c .before .before .before .before .before .before .before .loop-test .taken) (l .inv .3 .fitted) (m .ensures) in
-    grew-stop (a .chains) (a .table .now) (a .specified .now) (a .bits .now) (s .pre .0) (a .cells) (s .pre .1 .1) (length (a .spaces .now)) (l .slice) (l .kept) (take (l .kept .free) (l .vectors)) (l .spaces) (m .result) (take (m .result .free) (m .last .0)) (c .before .before .before .before .before .before .before .loop-test .taken) (l .inv .3) f (not-true (m .result .some) (c .if1 .taken))
+    grown-stop (a .chains) (a .table .now) (a .specified .now) (a .bits .now) (s .pre .0) (a .cells) (s .pre .1 .1) (length (a .spaces .now)) (l .slice) (l .kept) (take (l .kept .free) (l .vectors)) (l .spaces) (m .result) (take (m .result .free) (m .last .0)) (c .before .before .before .before .before .before .before .loop-test .taken) (l .inv .3) f (not-true (m .result .some) (c .if1 .taken))
 
 mul-store : tie.Need-mul-store Inv-loop μ-loop
 mul-store c = search needs
@@ -113,7 +113,7 @@ returns-2 c =
     let s = c .before .before .before .before .before .before .before in
     let a = s .args in
     let l = c .before .loop in
-    grew-end (a .chains) (a .table .now) (a .specified .now) (a .bits .now) (s .pre .0) (a .cells) (s .pre .1 .1) (length (a .spaces .now)) (l .slice) (l .kept) (take (l .kept .free) (l .vectors)) (l .spaces) (l .inv .0) (omega arith) (l .inv .3)
+    grown-end (a .chains) (a .table .now) (a .specified .now) (a .bits .now) (s .pre .0) (a .cells) (s .pre .1 .1) (length (a .spaces .now)) (l .slice) (l .kept) (take (l .kept .free) (l .vectors)) (l .spaces) (l .inv .0) (omega arith) (l .inv .3)
 
 pub grow-spec : {M : Type 1} → statement M
 grow-spec =

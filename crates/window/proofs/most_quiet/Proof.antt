@@ -7,10 +7,12 @@ use mathlib.Core.Path.{_≡_, sym, _∙_}
 use Prim.Native.Nat.{_-_, _+_, _≤_}
 use lib.ListN.{length, take}
 use Rattle.slices.proofs.Causes.{slices-equal}
-use Rattle.slices.proofs.Formed.{slices-each}
+use Rattle.slices.proofs.Formed.{slices-each, slices-length}
 use Rattle.search.proofs.Reading.{row-fits}
 use Rattle.forcing.proofs.Entering.{forced-left}
-use Rattle.window.proofs.Keeping.{Quiet, quiet-start, quiet-next, unquiet-stop, unquiet-end}
+use Rattle.window.specs.Code.{quietMeet}
+use Rattle.window.proofs.Fitting.{most-end}
+use Rattle.window.proofs.Keeping.{Quiet, quiet-start, quiet-next, quiet-stop}
 use Rattle.window.proofs.most_quiet.Statement.{statement}
 use Rattle.window.proofs.most_quiet.Tie as tie
 
@@ -77,7 +79,7 @@ returns c =
     let t = forced-left (m .result) (m .last .0) (a .pattern) (a .clauses .now) (l .slice) (o .result) (o .last .1 .1 .1 .0) (o .ensures .0) (o .ensures .1) in
     let q : Quiet (a .chains) (a .table .now) (a .pattern) (a .clauses .now) (paired (a .specified .now) (a .bits .now)) (a .cells) (l .slice + 1) (o .result) (take (o .result .free) (o .last .1 .1 .1 .0)) =
     rw (t, o .ensures .0) (quiet-next (a .chains) (a .table .now) (a .pattern) (a .clauses .now) (a .specified .now) (a .bits .now) (s .pre .0) (a .cells) (l .slice) (l .kept) (take (l .kept .free) (l .vectors)) (m .result) (take (m .result .free) (m .last .0)) lt (l .inv .2) (m .ensures)) in
-    unquiet-stop (a .chains) (a .table .now) (a .pattern) (a .clauses .now) (a .specified .now) (a .bits .now) (s .pre .0) (a .cells) (l .slice) (o .result) (take (o .result .free) (o .last .1 .1 .1 .0)) lt q (not-true (o .result .some) (c .if1 .taken))
+    quiet-stop (a .chains) (a .table .now) (a .pattern) (a .clauses .now) (a .specified .now) (a .bits .now) (s .pre .0) (a .cells) (l .slice) (o .result) (take (o .result .free) (o .last .1 .1 .1 .0)) lt q (not-true (o .result .some) (c .if1 .taken))
 
 add-slice : tie.Need-add-slice Inv-loop μ-loop
 add-slice c = let t = c .before .before .before .before .before .before .before .before .before .before .loop-test .taken in let g = c .before .before .before .before .before .before .before .before .before .before .before .before .before .before .before .before .before .good .1 .1 .1 .1 .1 .0 .0 in search needs
@@ -103,7 +105,7 @@ returns-2 c =
     let s = c .before .before .before .before .before .before .before in
     let a = s .args in
     let l = c .before .loop in
-    unquiet-end (a .chains) (a .table .now) (a .pattern) (a .clauses .now) (a .specified .now) (a .bits .now) (s .pre .0) (a .cells) (l .slice) (l .inv .0) (omega arith)
+    most-end (quietMeet (a .chains) (a .table .now) (a .pattern) (a .clauses .now)) (paired (a .specified .now) (a .bits .now)) (a .cells) (l .slice) (omega (arith, l .inv .0, slices-length (a .chains) (a .specified .now) (a .bits .now) (s .pre .0)))
 
 pub most-quiet-spec : {M : Type 1} → statement M
 most-quiet-spec =
