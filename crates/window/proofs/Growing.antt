@@ -5,7 +5,7 @@
 --     growing-start, growing-next, growing-beyond     at the start, after a slice whose space is written, and after one whose space is not
 --     grown-stop, grown-end     where nothing is left, and at the end
 --     grown-part         the spaces of a part that is cut off
---     held-part, held-whole     a space as that of a part, and with its vectors
+--     held-part          a space as that of a part
 --     storing-start, storing-next, storing-before, storing-end     of a loop that writes the vectors of a space
 --     loading-next, loading-end     of a loop that reads them
 -- Assumes nothing.
@@ -16,7 +16,7 @@ use mathlib.Core.List.{List}
 use Prim.Native.Nat.{ℕ, suc, _+_, _-_, _*_, _/_, _^_, _≤_, _<_, min}
 use native.Mathlib.Omega.{arith}
 use lib.ListN.{getD, length, take, drop, set, length-drop, length-set, length-take}
-use lib.Seq.{ext-getD, length-take-le, take-all, take-take, getD-drop, getD-take, getD-set-same, getD-set-other}
+use lib.Seq.{ext-getD, length-take-le, take-take, getD-drop, getD-take, getD-set-same, getD-set-other}
 use borrow.Author.Count.{below-more}
 use Rattle.bounded.proofs.Tests.{eq-or-not, lt-or-le}
 use Rattle.space.specs.declared.Space.{Space}
@@ -38,8 +38,8 @@ held-vectors old new a b f h l e = ap (take f) (ext-getD 0 (take 64 (drop (b + 2
     getD-take 64 (drop (b + 2) new) i 0 w ∙ getD-drop (b + 2) new i 0 ∙ e (b + 2 + i) (omega arith) ∙ sym (getD-take 64 (drop (b + 2) old) i 0 w ∙ getD-drop (b + 2) old i 0)))
 
 module _ (c : ℕ) (table : List ℕ) (w : List TestSlice) (cells : ℕ) where
-  abbrev At : ℕ → ℕ → ℕ → List ℕ → Type 0
-  At k x f vs = Narrows (allMeet c table 0 (take k w)) (allStates cells) (unitsOf cells) (record { lowest = x; free = f; some = true }) vs
+  abbrev As : ℕ → ℕ → List ℕ → Type 0
+  As x f vs = Narrows (allMeet c table 0 w) (allStates cells) (unitsOf cells) (record { lowest = x; free = f; some = true }) vs
 
   pub held-same : (old new : List ℕ) (a k : ℕ) → (k - 1) * 66 + 66 ≤ a → length new ≡ length old → ((i : ℕ) → i < a → getD new i 0 ≡ getD old i 0)
       → HeldAt c table w cells old k → HeldAt c table w cells new k
@@ -49,19 +49,20 @@ module _ (c : ℕ) (table : List ℕ) (w : List TestSlice) (cells : ℕ) where
       let f : getD old (b + 1) 0 ≡ getD new (b + 1) 0 = sym (e (b + 1) (omega arith)) in
       let v : heldVectors old b (getD old (b + 1) 0) ≡ heldVectors new b (getD new (b + 1) 0) =
       sym (held-vectors old new a b (getD old (b + 1) 0) h l e) ∙ ap (heldVectors new b) f in
-      subst (λ (q : ℕ). At k q (getD new (b + 1) 0) (heldVectors new b (getD new (b + 1) 0))) x
-      (subst (λ (q : ℕ). At k (getD old b 0) q (heldVectors new b (getD new (b + 1) 0))) f
-      (subst (λ (us : List ℕ). At k (getD old b 0) (getD old (b + 1) 0) us) v n))
+      subst (λ (q : ℕ). As q (getD new (b + 1) 0) (heldVectors new b (getD new (b + 1) 0))) x
+      (subst (λ (q : ℕ). As (getD old b 0) q (heldVectors new b (getD new (b + 1) 0))) f
+      (subst (λ (us : List ℕ). As (getD old b 0) (getD old (b + 1) 0) us) v n))
 
-  pub held-new : (new : List ℕ) (k : ℕ) (y : Space) (vs : List ℕ) → Holds new ((k - 1) * 66) (y .lowest) (y .free) vs → y .some ≡ true → Fitted c table w (allStates cells) (unitsOf cells) k y vs
+  pub held-new : (new : List ℕ) (k : ℕ) (y : Space) (vs : List ℕ) → Holds new ((k - 1) * 66) (y .lowest) (y .free) vs → y .some ≡ true → Narrows (allMeet c table 0 w) (allStates cells) (unitsOf cells) y vs
       → HeldAt c table w cells new k
   held-new new k y vs h e n =
       let b : ℕ = (k - 1) * 66 in
-      let m : At k (y .lowest) (y .free) vs = subst (λ (t : Bool). Narrows (allMeet c table 0 (take k w)) (allStates cells) (unitsOf cells) (record { lowest = y .lowest; free = y .free; some = t }) vs) e n in
-      subst (λ (q : ℕ). At k q (getD new (b + 1) 0) (heldVectors new b (getD new (b + 1) 0))) (sym (h .lowest))
-      (subst (λ (q : ℕ). At k (y .lowest) q (heldVectors new b q)) (sym (h .free))
-      (subst (λ (us : List ℕ). At k (y .lowest) (y .free) us) (sym (h .vectors)) m))
+      let m : As (y .lowest) (y .free) vs = subst (λ (t : Bool). Narrows (allMeet c table 0 w) (allStates cells) (unitsOf cells) (record { lowest = y .lowest; free = y .free; some = t }) vs) e n in
+      subst (λ (q : ℕ). As q (getD new (b + 1) 0) (heldVectors new b (getD new (b + 1) 0))) (sym (h .lowest))
+      (subst (λ (q : ℕ). As (y .lowest) q (heldVectors new b q)) (sym (h .free))
+      (subst (λ (us : List ℕ). As (y .lowest) (y .free) us) (sym (h .vectors)) m))
 
+module _ (c : ℕ) (table : List ℕ) (w : List TestSlice) (cells : ℕ) where
   pub record Growing (n k : ℕ) (y : Space) (vs spaces : List ℕ) : Type 0 where
     pub long : length spaces ≡ n
     pub some : y .some ≡ true
@@ -83,8 +84,8 @@ module _ (c : ℕ) (table : List ℕ) (w : List TestSlice) (cells : ℕ) where
       some = e;
       fitted = f;
       held = λ j p b t. ⊎-elim
-          (λ q. subst (HeldAt c table w cells new) (sym q) (held-new new (k + 1) z ws (let u : k * 66 ≡ (k + 1 - 1) * 66 = omega arith in subst (λ (a : ℕ). Holds new a (z .lowest) (z .free) ws) u h) e f))
-          (λ ne. held-same spaces new (k * 66) j (omega arith) l s (g .held j p (omega arith) (subst (λ (m : ℕ). j ≤ m / 66) l t)))
+          (λ q. subst (λ (i : ℕ). HeldAt c table (take i w) cells new i) (sym q) (held-new c table (take (k + 1) w) cells new (k + 1) z ws (let u : k * 66 ≡ (k + 1 - 1) * 66 = omega arith in subst (λ (a : ℕ). Holds new a (z .lowest) (z .free) ws) u h) e f))
+          (λ ne. held-same c table (take j w) cells spaces new (k * 66) j (omega arith) l s (g .held j p (omega arith) (subst (λ (m : ℕ). j ≤ m / 66) l t)))
           (eq-or-not j (k + 1));
     }
 
@@ -123,8 +124,7 @@ grown-part c table p clauses ps bs b cells spaces q k u g = record {
         (λ gt. u .more j s gt m h)
         (split j);
   };
-  held = λ j h m t. subst (λ (v : List TestSlice). Narrows (allMeet c table 0 v) (allStates cells) (unitsOf cells) (record { lowest = getD spaces ((j - 1) * 66) 0; free = getD spaces ((j - 1) * 66 + 1) 0; some = true }) (heldVectors spaces ((j - 1) * 66) (getD spaces ((j - 1) * 66 + 1) 0)))
-      (front j (omega (arith, few))) (g .held j h m t);
+  held = λ j h m t. subst (λ (v : List TestSlice). HeldAt c table v cells spaces j) (front j (omega (arith, few))) (g .held j h m t);
 }
   where
     w : List TestSlice
@@ -143,21 +143,11 @@ grown-part c table p clauses ps bs b cells spaces q k u g = record {
     split j = ⊎-elim (λ l. inr l) (λ l. inl l) (lt-or-le q j)
 
 -- a space is that of the slices cut off at its number
-pub held-part : (c : ℕ) (table ps bs : List ℕ) (cells : ℕ) (spaces : List ℕ) (k : ℕ) → k ≤ length ps → HeldAt c table (paired ps bs) cells spaces k
+pub held-part : (c : ℕ) (table ps bs : List ℕ) (cells : ℕ) (spaces : List ℕ) (k : ℕ) → k ≤ length ps → HeldAt c table (take k (paired ps bs)) cells spaces k
     → HeldAt c table (paired (take k ps) (take k bs)) cells spaces (length (take k ps))
 held-part c table ps bs cells spaces k h a =
-    let n : length (take k ps) ≡ k = length-take-le k ps h in
-    let e : take k (paired (take k ps) (take k bs)) ≡ take k (paired ps bs) = ap (take k) (paired-take k ps bs) ∙ take-take k k (paired ps bs) (omega arith) in
-    subst (λ (j : ℕ). HeldAt c table (paired (take k ps) (take k bs)) cells spaces j) (sym n)
-    (subst (λ (l : List TestSlice). Narrows (allMeet c table 0 l) (allStates cells) (unitsOf cells) (record { lowest = getD spaces ((k - 1) * 66) 0; free = getD spaces ((k - 1) * 66 + 1) 0; some = true }) (heldVectors spaces ((k - 1) * 66) (getD spaces ((k - 1) * 66 + 1) 0))) (sym e) a)
-
--- a space of all slices, with its vectors
-pub held-whole : (c : ℕ) (table ps bs : List ℕ) (b : badSlices c ps bs ≡ false) (cells : ℕ) (spaces vs : List ℕ) → HeldAt c table (paired ps bs) cells spaces (length ps)
-    → take (getD spaces ((length ps - 1) * 66 + 1) 0) vs ≡ heldVectors spaces ((length ps - 1) * 66) (getD spaces ((length ps - 1) * 66 + 1) 0)
-    → Narrows (allMeet c table 0 (paired ps bs)) (allStates cells) (unitsOf cells) (record { lowest = getD spaces ((length ps - 1) * 66) 0; free = getD spaces ((length ps - 1) * 66 + 1) 0; some = true }) (take (getD spaces ((length ps - 1) * 66 + 1) 0) vs)
-held-whole c table ps bs b cells spaces vs a e =
-    let w : take (length ps) (paired ps bs) ≡ paired ps bs = take-all (length ps) (paired ps bs) (omega (arith, slices-length c ps bs b)) in
-    rw e (subst (λ (l : List TestSlice). Narrows (allMeet c table 0 l) (allStates cells) (unitsOf cells) (record { lowest = getD spaces ((length ps - 1) * 66) 0; free = getD spaces ((length ps - 1) * 66 + 1) 0; some = true }) (heldVectors spaces ((length ps - 1) * 66) (getD spaces ((length ps - 1) * 66 + 1) 0))) w a)
+    subst (λ (j : ℕ). HeldAt c table (paired (take k ps) (take k bs)) cells spaces j) (sym (length-take-le k ps h))
+    (subst (λ (v : List TestSlice). HeldAt c table v cells spaces k) (sym (paired-take k ps bs)) a)
 
 -- ---- a loop that writes the vectors of a space
 

@@ -8,8 +8,8 @@
 --     allowed c table stop closing w s   s meets the slices w and, where it must close, shows the stop after them
 --     heldVectors spaces a f      f vectors of a space that is written from the place a on: its lowest member, how many vectors it has, and those
 --     Holds spaces a x f vs       the space of x and the vectors vs is written there
---     HeldAt c table w cells spaces k     the states that meet the first k slices of w are the space number k, counted from 1
---     Held c table w cells spaces k       so it is of each number of slices from 1 to k, as far as there are entries
+--     HeldAt c table w cells spaces k     the states that meet the slices w are the space number k, counted from 1
+--     Held c table w cells spaces k       for each j from 1 to k, as far as there are entries, the states that meet the first j slices of w are the space number j
 --     quietMeet c table p clauses w s     s meets the slices w and shows the stop in none of them
 --     Most P w cells k            w has k slices or more, and no state passes P on more than the first k of them
 --     Grown P c table w cells spaces k    besides, the spaces are written up to k slices
@@ -68,11 +68,11 @@ pub record Holds (spaces : List ℕ) (a x f : ℕ) (vs : List ℕ) : Type 0 wher
 -- Space number k is written from the place (k - 1) * 66 on.
 abbrev pub HeldAt : ℕ → List ℕ → List TestSlice → ℕ → List ℕ → ℕ → Type 0
 HeldAt c table w cells spaces k =
-    Narrows (allMeet c table 0 (take k w)) (allStates cells) (unitsOf cells)
+    Narrows (allMeet c table 0 w) (allStates cells) (unitsOf cells)
     (record { lowest = getD spaces ((k - 1) * 66) 0; free = getD spaces ((k - 1) * 66 + 1) 0; some = true }) (heldVectors spaces ((k - 1) * 66) (getD spaces ((k - 1) * 66 + 1) 0))
 
 abbrev pub Held : ℕ → List ℕ → List TestSlice → ℕ → List ℕ → ℕ → Type 0
-Held c table w cells spaces k = (j : ℕ) → 0 < j → j ≤ k → j ≤ length spaces / 66 → HeldAt c table w cells spaces j
+Held c table w cells spaces k = (j : ℕ) → 0 < j → j ≤ k → j ≤ length spaces / 66 → HeldAt c table (take j w) cells spaces j
 
 unfoldable pub quietMeet : ℕ → List ℕ → Pattern → List ℕ → List TestSlice → ℕ → Bool
 quietMeet c table p clauses w s = allMeet c table 0 w s && clear p clauses (length w) s

@@ -1,6 +1,5 @@
 -- `window::length_seed` meets its contract. Assumes nothing.
 use lib.ListN.{length}
-use Rattle.window.proofs.Growing.{held-whole}
 use native.Mathlib.Omega.{arith}
 use borrow.Author.Needs.{needs}
 use Rattle.window.proofs.length_seed.Statement.{statement}
@@ -41,7 +40,7 @@ lowest-covering-requires c κs =
     let s = c .before .before .before .before .before .before .before .before .before .before in
     let a = s .args in (
       s .pre .0,
-      (s .pre .1 .0, held-whole (length (a .masks .now)) (a .table .now) (a .specified .now) (a .bits .now) (s .pre .1 .0) (a .settings .cells) (a .spaces .now) (c .load .result) (s .pre .1 .1 .1 (omega arith)) (c .load .ensures)),
+      (s .pre .1 .0, rw (c .load .ensures) (s .pre .1 .1 .1 (omega arith))),
     )
 
 returns-2 : tie.Need-returns-2
