@@ -9,15 +9,14 @@
 --     storing-start, storing-next, storing-before, storing-end     of a loop that writes the vectors of a space
 --     loading-next, loading-end     of a loop that reads them
 -- Assumes nothing.
-use mathlib.Core.Path.{_≡_, refl, sym, ap, ap₂, _∙_, subst}
+use mathlib.Core.Path.{_≡_, refl, sym, ap, _∙_, subst}
 use mathlib.Core.Logic.{_⊎_, inl, inr, ⊎-elim}
 use mathlib.Core.Bool.{Bool, true, false}
 use mathlib.Core.List.{List}
-use Prim.Native.Nat.{ℕ, suc, _+_, _-_, _*_, _/_, _^_, _≤_, _<_, min}
+use Prim.Native.Nat.{ℕ, _+_, _-_, _*_, _/_, _≤_, _<_, min}
 use native.Mathlib.Omega.{arith}
 use lib.ListN.{getD, length, take, drop, set, length-drop, length-set, length-take}
 use lib.Seq.{ext-getD, length-take-le, take-take, getD-drop, getD-take, getD-set-same, getD-set-other}
-use borrow.Author.Count.{below-more}
 use Rattle.bounded.proofs.Tests.{eq-or-not, lt-or-le}
 use Rattle.space.specs.declared.Space.{Space}
 use Rattle.search.specs.declared.Pattern.{Pattern}

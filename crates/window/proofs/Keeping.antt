@@ -4,20 +4,18 @@
 --     Quiet, quiet-start, quiet-next     of a loop over the slices: every state that meets the slices so far and is clear in their rows is left
 --     quiet-stop         where nothing is left
 -- Assumes nothing.
-use mathlib.Core.Path.{_≡_, refl, sym, ap, _∙_, subst}
-use mathlib.Core.Bool.{Bool, true, false, not, _&&_}
+use mathlib.Core.Path.{_≡_}
+use mathlib.Core.Bool.{Bool, true, false}
 use mathlib.Core.List.{List}
-use Prim.Native.Nat.{ℕ, suc, _+_, _^_, _≤_, _<_}
-use native.Mathlib.Numerals.{add-one}
+use Prim.Native.Nat.{ℕ, _+_, _^_, _≤_, _<_}
 use native.Mathlib.Omega.{arith}
 use lib.ListN.{length, take}
 use lib.Seq.{length-take-le}
-use borrow.Author.Tests.{not-true}
 use Rattle.bounded.proofs.Tests.{both, clash, fails}
 use Rattle.space.specs.declared.Space.{Space}
-use Rattle.space.specs.Space.{Rising, Member}
+use Rattle.space.specs.Space.{Member}
 use Rattle.search.specs.declared.Pattern.{Pattern}
-use Rattle.search.specs.Clauses.{row, shown, clear}
+use Rattle.search.specs.Clauses.{row, clear}
 use Rattle.search.proofs.Reading.{clear-at, clear-front}
 use Rattle.slices.specs.declared.TestSlice.{TestSlice}
 use Rattle.slices.specs.Slices.{paired, badSlices}

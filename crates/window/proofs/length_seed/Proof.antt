@@ -1,5 +1,4 @@
 -- `window::length_seed` meets its contract. Assumes nothing.
-use lib.ListN.{length}
 use native.Mathlib.Omega.{arith}
 use borrow.Author.Needs.{needs}
 use Rattle.window.proofs.length_seed.Statement.{statement}
