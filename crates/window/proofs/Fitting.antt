@@ -1,5 +1,6 @@
 -- Laws of meeting the slices of a window, as its loop goes up through them.
 --     row-part          a row of the table, as a part of it
+--     row-asked         the row of a slice is there, and long enough for it
 --     meet-last         one slice more
 --     meet-front, meet-at     who meets more slices meets fewer, and each of them
 --     Fitted            what the loop keeps: the members that meet the slices so far
@@ -11,7 +12,7 @@
 use mathlib.Core.Path.{_≡_, refl, sym, ap, ap₂, _∙_}
 use mathlib.Core.Bool.{Bool, true, false, _&&_, and-true, and-assoc}
 use mathlib.Core.List.{List, [], _∷_}
-use Prim.Native.Nat.{ℕ, zero, suc, _+_, _-_, _*_, _≤_, _<_}
+use Prim.Native.Nat.{ℕ, zero, suc, _+_, _-_, _*_, _^_, _≤_, _<_}
 use native.Mathlib.Numerals.{add-one}
 use native.Mathlib.Omega.{arith}
 use lib.ListN.{getD, length, take, drop}
@@ -20,15 +21,19 @@ use Rattle.bounded.proofs.Tests.{clash, fails, both, and-yes}
 use Rattle.space.specs.declared.Space.{Space}
 use Rattle.space.specs.Space.{Member}
 use Rattle.search.specs.Clauses.{row}
+use Rattle.search.proofs.Reading.{row-fits}
 use Rattle.slices.specs.declared.TestSlice.{TestSlice}
 use Rattle.slices.specs.Slices.{paired, badSlices}
 use Rattle.slices.proofs.Causes.{sliceAt}
-use Rattle.slices.proofs.Formed.{slices-length, slices-at}
+use Rattle.slices.proofs.Formed.{slices-length, slices-at, slices-each}
 use Rattle.window.specs.Code.{meets, allMeet, closed, allowed, Narrows, Most}
 use Rattle.window.proofs.Narrowing.{narrows-none, narrows-same, narrows-then}
 
 pub row-part : (c : ℕ) (table : List ℕ) (t : ℕ) → take (t * c + c - t * c) (drop (t * c) table) ≡ row c table t
 row-part c table t = let e : t * c + c - t * c ≡ c = omega arith in rw e
+
+pub row-asked : (c : ℕ) (table ps bs : List ℕ) → badSlices c ps bs ≡ false → length ps * c ≤ length table → (k : ℕ) → k < length ps → (sliceAt ps bs k .specified < 2 ^ c) × (k * c + c ≤ length table)
+row-asked c table ps bs b h k l = (slices-each c ps bs b k l .among, row-fits k (length ps) c (length table) l h)
 
 module _ (c : ℕ) (table : List ℕ) where
   abbrev Meets : ℕ → TestSlice → ℕ → Bool

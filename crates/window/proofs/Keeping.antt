@@ -1,6 +1,6 @@
 -- Forced positions: a space that keeps every member that is clear.
 --     keeps-none, keeps-then     nothing is forced; one after the other
---     keeps-row          what a row forces
+--     keeps-next         one row more: what it forces is entered
 --     Quiet, quiet-start, quiet-next     of a loop over the slices: every state that meets the slices so far and is clear in their rows is left
 --     quiet-stop         where nothing is left
 -- Assumes nothing.
@@ -23,6 +23,7 @@ use Rattle.slices.proofs.Causes.{sliceAt}
 use Rattle.slices.proofs.Formed.{slices-length}
 use Rattle.forcing.specs.Forcing.{forced, forcedVectors}
 use Rattle.forcing.proofs.Forcing.{forced-sound, forced-complete, forced-rising}
+use Rattle.forcing.proofs.Entering.{Entered, forced-left}
 use Rattle.window.specs.Code.{meets, allMeet, allStates, unitsOf, Narrows, Keeps, quietMeet, Most}
 use Rattle.window.proofs.Narrowing.{some-member}
 use Rattle.window.proofs.Fitting.{meet-front, meet-at}
@@ -38,12 +39,18 @@ keeps-then K y vs z ws u us a b = record {
   rising = λ r e. b .rising (a .rising r (b .sound (u .lowest) (some-member u us e) .0)) e;
 }
 
-pub keeps-row : (p : Pattern) (table : List ℕ) (m t : ℕ) (y : Space) (vs : List ℕ) → t < m → Keeps (clear p table m) y vs (forced p table t vs y) (forcedVectors p table t vs y)
+keeps-row : (p : Pattern) (table : List ℕ) (m t : ℕ) (y : Space) (vs : List ℕ) → t < m → Keeps (clear p table m) y vs (forced p table t vs y) (forcedVectors p table t vs y)
 keeps-row p table m t y vs h = record {
   sound = forced-sound p table t vs y;
   complete = λ s k c. forced-complete p table t vs y s k (clear-at p table s m t c h);
   rising = forced-rising p table t vs y;
 }
+
+pub keeps-next : (p : Pattern) (table : List ℕ) (m t : ℕ) (x : Space) (us : List ℕ) (y : Space) (l : List ℕ) (r : Space) (out : List ℕ) → t < m
+    → Keeps (clear p table m) x us y (take (y .free) l) → Entered y l p table t r out → Keeps (clear p table m) x us r (take (r .free) out)
+keeps-next p table m t x us y l r out h k e =
+    let vs = take (y .free) l in
+    rw (forced-left y l p table t r out (e .0) (e .1), e .0) (keeps-then (clear p table m) x us y vs (forced p table t vs y) (forcedVectors p table t vs y) k (keeps-row p table m t y vs h))
 
 -- ---- while the prefix grows
 
@@ -60,13 +67,13 @@ module _ (c : ℕ) (table : List ℕ) (p : Pattern) (clauses ps bs : List ℕ) (
   pub quiet-start : cells ≤ 64 → So 0 (allStates cells) (unitsOf cells)
   quiet-start few s h a k = states-complete cells few s h
 
-  pub quiet-next : (k : ℕ) (y : Space) (vs : List ℕ) (z : Space) (ws : List ℕ) → k < length ps → So k y vs → Narrows (meets (row c table k) (sliceAt ps bs k .specified) (sliceAt ps bs k .bits)) y vs z ws
-      → So (k + 1) (forced p clauses k ws z) (forcedVectors p clauses k ws z)
-  quiet-next k y vs z ws h q n s l a e =
-      let f : clear p clauses k s ≡ true = clear-front p clauses s (k + 1) k (omega arith) e in
-      forced-complete p clauses k ws z s
-      (n .complete s (q s l (meet-front c table w 0 k (k + 1) s (omega arith) a) f) (meet-at c table ps bs b (allStates cells) (unitsOf cells) k s h a))
-      (clear-at p clauses s (k + 1) k e (omega arith))
+  pub quiet-next : (k : ℕ) (y : Space) (vs : List ℕ) (z : Space) (l : List ℕ) (r : Space) (out : List ℕ) → k < length ps → So k y vs
+      → Narrows (meets (row c table k) (sliceAt ps bs k .specified) (sliceAt ps bs k .bits)) y vs z (take (z .free) l) → Entered z l p clauses k r out → So (k + 1) r (take (r .free) out)
+  quiet-next k y vs z l r out h q n e s u a d =
+      let f : clear p clauses k s ≡ true = clear-front p clauses s (k + 1) k (omega arith) d in
+      rw (forced-left z l p clauses k r out (e .0) (e .1), e .0) (forced-complete p clauses k (take (z .free) l) z s
+      (n .complete s (q s u (meet-front c table w 0 k (k + 1) s (omega arith) a) f) (meet-at c table ps bs b (allStates cells) (unitsOf cells) k s h a))
+      (clear-at p clauses s (k + 1) k d (omega arith)))
 
   pub quiet-stop : (k : ℕ) (y : Space) (vs : List ℕ) → k < length ps → So (k + 1) y vs → y .some ≡ false → Most (quietMeet c table p clauses) w cells k
   unfolding quietMeet

@@ -6,9 +6,8 @@ use Prim.Native.Nat.{_-_, _≤_}
 use lib.ListN.{length, take}
 use Rattle.search.specs.Clauses.{clear}
 use Rattle.search.proofs.Reading.{row-fits}
-use Rattle.forcing.proofs.Entering.{forced-left}
 use Rattle.window.specs.Code.{Keeps}
-use Rattle.window.proofs.Keeping.{keeps-none, keeps-then, keeps-row}
+use Rattle.window.proofs.Keeping.{keeps-none, keeps-next}
 use Rattle.window.proofs.forced.force_rows.Statement.{statement}
 use Rattle.window.proofs.forced.force_rows.Tie as tie
 
@@ -36,11 +35,7 @@ returns c =
     let a = c .before .before .before .before .before .before .before .before .before .before .args in
     let l = c .before .before .before .before .before .before .before .loop in
     let o = c .before .before .before .before .force-row in
-    let vs = take (l .kept .free) (l .vectors) in
-    let t = forced-left (l .kept) (l .vectors) (a .pattern) (a .clauses .now) (l .row) (o .result) (o .last .1 .1 .1 .0) (o .ensures .0) (o .ensures .1) in
-    let k = keeps-then (clear (a .pattern) (a .clauses .now) (a .rows)) (a .space) (take (a .space .free) (a .vectors .now)) (l .kept) vs (o .result) (take (o .result .free) (o .last .1 .1 .1 .0)) (l .inv .2)
-    (rw (t, o .ensures .0) (keeps-row (a .pattern) (a .clauses .now) (a .rows) (l .row) (l .kept) vs (c .before .before .before .before .before .before .loop-test .taken))) in
-    k
+    keeps-next (a .pattern) (a .clauses .now) (a .rows) (l .row) (a .space) (take (a .space .free) (a .vectors .now)) (l .kept) (l .vectors) (o .result) (o .last .1 .1 .1 .0) (c .before .before .before .before .before .before .loop-test .taken) (l .inv .2) (o .ensures)
 
 add-row : tie.Need-add-row Inv-loop μ-loop
 add-row c = search needs
@@ -53,11 +48,7 @@ loop-again c =
     let a = c .before .before .before .before .before .before .before .before .before .before .args in
     let l = c .before .before .before .before .before .before .before .loop in
     let o = c .before .before .before .before .force-row in
-    let vs = take (l .kept .free) (l .vectors) in
-    let t = forced-left (l .kept) (l .vectors) (a .pattern) (a .clauses .now) (l .row) (o .result) (o .last .1 .1 .1 .0) (o .ensures .0) (o .ensures .1) in
-    let k = keeps-then (clear (a .pattern) (a .clauses .now) (a .rows)) (a .space) (take (a .space .free) (a .vectors .now)) (l .kept) vs (o .result) (take (o .result .free) (o .last .1 .1 .1 .0)) (l .inv .2)
-    (rw (t, o .ensures .0) (keeps-row (a .pattern) (a .clauses .now) (a .rows) (l .row) (l .kept) vs (c .before .before .before .before .before .before .loop-test .taken))) in
-    (omega (arith, c .before .before .before .before .before .before .loop-test .taken), o .kept .1 .1 .1 .0 ∙ l .inv .1, k)
+    (omega (arith, c .before .before .before .before .before .before .loop-test .taken), o .kept .1 .1 .1 .0 ∙ l .inv .1, keeps-next (a .pattern) (a .clauses .now) (a .rows) (l .row) (a .space) (take (a .space .free) (a .vectors .now)) (l .kept) (l .vectors) (o .result) (o .last .1 .1 .1 .0) (c .before .before .before .before .before .before .loop-test .taken) (l .inv .2) (o .ensures))
 
 same-length-2 : tie.Need-same-length-2 Inv-loop μ-loop
 same-length-2 c = c .before .loop .inv .1

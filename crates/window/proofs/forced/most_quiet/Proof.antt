@@ -4,14 +4,13 @@ use borrow.Author.Tests.{not-true}
 use borrow.Author.Needs.{needs}
 use native.Mathlib.Omega.{arith}
 use mathlib.Core.Path.{_≡_, sym, _∙_}
-use Prim.Native.Nat.{_-_, _+_, _≤_}
+use Prim.Native.Nat.{_-_, _≤_}
 use lib.ListN.{length, take}
 use Rattle.slices.proofs.Causes.{slices-equal}
-use Rattle.slices.proofs.Formed.{slices-each, slices-length}
+use Rattle.slices.proofs.Formed.{slices-length}
 use Rattle.search.proofs.Reading.{row-fits}
-use Rattle.forcing.proofs.Entering.{forced-left}
 use Rattle.window.specs.Code.{quietMeet}
-use Rattle.window.proofs.Fitting.{most-end}
+use Rattle.window.proofs.Fitting.{row-asked, most-end}
 use Rattle.window.proofs.Keeping.{Quiet, quiet-start, quiet-next, quiet-stop}
 use Rattle.window.proofs.forced.most_quiet.Statement.{statement}
 use Rattle.window.proofs.forced.most_quiet.Tie as tie
@@ -54,10 +53,7 @@ meet-row-requires c κs =
     let i = c .before .before .before in
     let s = c .before .before .before .before .before .before .before .before .before .before in
     let a = s .args in
-    let l = i .before .loop in (
-      slices-each (a .chains) (a .specified .now) (a .bits .now) (s .pre .0) (l .slice) (i .loop-test .taken) .among,
-      row-fits (l .slice) (length (a .specified .now)) (a .chains) (length (a .table .now)) (i .loop-test .taken) (s .pre .1 .0),
-    )
+    row-asked (a .chains) (a .table .now) (a .specified .now) (a .bits .now) (s .pre .0) (s .pre .1 .0) (i .before .loop .slice) (i .loop-test .taken)
 
 slice-aggregate-force-row : tie.Need-slice-aggregate-force-row Inv-loop μ-loop
 slice-aggregate-force-row c = sym (c .before .before .meet-row .kept .0 ∙ c .before .before .before .before .before .before .before .loop .inv .1)
@@ -76,9 +72,7 @@ returns c =
     let m = c .before .before .before .before .before .before .meet-row in
     let o = c .before .before .before .force-row in
     let lt = c .before .before .before .before .before .before .before .before .before .before .loop-test .taken in
-    let t = forced-left (m .result) (m .last .0) (a .pattern) (a .clauses .now) (l .slice) (o .result) (o .last .1 .1 .1 .0) (o .ensures .0) (o .ensures .1) in
-    let q : Quiet (a .chains) (a .table .now) (a .pattern) (a .clauses .now) (paired (a .specified .now) (a .bits .now)) (a .cells) (l .slice + 1) (o .result) (take (o .result .free) (o .last .1 .1 .1 .0)) =
-    rw (t, o .ensures .0) (quiet-next (a .chains) (a .table .now) (a .pattern) (a .clauses .now) (a .specified .now) (a .bits .now) (s .pre .0) (a .cells) (l .slice) (l .kept) (take (l .kept .free) (l .vectors)) (m .result) (take (m .result .free) (m .last .0)) lt (l .inv .2) (m .ensures)) in
+    let q = quiet-next (a .chains) (a .table .now) (a .pattern) (a .clauses .now) (a .specified .now) (a .bits .now) (s .pre .0) (a .cells) (l .slice) (l .kept) (take (l .kept .free) (l .vectors)) (m .result) (m .last .0) (o .result) (o .last .1 .1 .1 .0) lt (l .inv .2) (m .ensures) (o .ensures) in
     quiet-stop (a .chains) (a .table .now) (a .pattern) (a .clauses .now) (a .specified .now) (a .bits .now) (s .pre .0) (a .cells) (l .slice) (o .result) (take (o .result .free) (o .last .1 .1 .1 .0)) lt q (not-true (o .result .some) (c .if1 .taken))
 
 add-slice : tie.Need-add-slice Inv-loop μ-loop
@@ -95,9 +89,7 @@ loop-again c =
     let m = c .before .before .before .before .before .before .meet-row in
     let o = c .before .before .before .force-row in
     let lt = c .before .before .before .before .before .before .before .before .before .before .loop-test .taken in
-    let t = forced-left (m .result) (m .last .0) (a .pattern) (a .clauses .now) (l .slice) (o .result) (o .last .1 .1 .1 .0) (o .ensures .0) (o .ensures .1) in
-    let q : Quiet (a .chains) (a .table .now) (a .pattern) (a .clauses .now) (paired (a .specified .now) (a .bits .now)) (a .cells) (l .slice + 1) (o .result) (take (o .result .free) (o .last .1 .1 .1 .0)) =
-    rw (t, o .ensures .0) (quiet-next (a .chains) (a .table .now) (a .pattern) (a .clauses .now) (a .specified .now) (a .bits .now) (s .pre .0) (a .cells) (l .slice) (l .kept) (take (l .kept .free) (l .vectors)) (m .result) (take (m .result .free) (m .last .0)) lt (l .inv .2) (m .ensures)) in
+    let q = quiet-next (a .chains) (a .table .now) (a .pattern) (a .clauses .now) (a .specified .now) (a .bits .now) (s .pre .0) (a .cells) (l .slice) (l .kept) (take (l .kept .free) (l .vectors)) (m .result) (m .last .0) (o .result) (o .last .1 .1 .1 .0) lt (l .inv .2) (m .ensures) (o .ensures) in
     (omega (arith, lt), o .kept .1 .1 .1 .0 ∙ m .kept .0 ∙ l .inv .1, q)
 
 returns-2 : tie.Need-returns-2 Inv-loop μ-loop

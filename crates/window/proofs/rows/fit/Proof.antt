@@ -6,9 +6,7 @@ use Prim.Native.Nat.{_-_, _≤_}
 use lib.ListN.{length, take}
 use Rattle.slices.specs.Slices.{paired}
 use Rattle.slices.proofs.Causes.{slices-equal}
-use Rattle.slices.proofs.Formed.{slices-each}
-use Rattle.search.proofs.Reading.{row-fits}
-use Rattle.window.proofs.Fitting.{Fitted, fitted-start, fitted-next, fitted-end}
+use Rattle.window.proofs.Fitting.{row-asked, Fitted, fitted-start, fitted-next, fitted-end}
 use Rattle.window.proofs.rows.fit.Statement.{statement}
 use Rattle.window.proofs.rows.fit.Tie as tie
 
@@ -43,10 +41,7 @@ meet-row-requires c κs =
     let i = c .before .before .before in
     let s = i .before .before .before .before .before .before in
     let a = s .args in
-    let l = i .before .loop in (
-      slices-each (a .chains) (a .specified .now) (a .bits .now) (s .pre .0) (l .slice) (i .loop-test .taken) .among,
-      row-fits (l .slice) (length (a .specified .now)) (a .chains) (length (a .table .now)) (i .loop-test .taken) (s .pre .1),
-    )
+    row-asked (a .chains) (a .table .now) (a .specified .now) (a .bits .now) (s .pre .0) (s .pre .1) (i .before .loop .slice) (i .loop-test .taken)
 
 add-slice : tie.Need-add-slice Inv-loop μ-loop
 add-slice c = search needs

@@ -8,10 +8,8 @@ use Prim.Native.Nat.{_-_, _/_, _≤_}
 use lib.ListN.{length, take}
 use Rattle.slices.specs.Slices.{paired}
 use Rattle.slices.proofs.Causes.{slices-equal}
-use Rattle.slices.proofs.Formed.{slices-each}
-use Rattle.search.proofs.Reading.{row-fits}
 use Rattle.window.specs.Code.{allStates, unitsOf}
-use Rattle.window.proofs.Fitting.{fitted-next}
+use Rattle.window.proofs.Fitting.{row-asked, fitted-next}
 use Rattle.window.proofs.Growing.{Growing, growing-start, growing-next, growing-beyond, grown-stop, grown-end}
 use Rattle.window.proofs.spaces.grow.Statement.{statement}
 use Rattle.window.proofs.spaces.grow.Tie as tie
@@ -54,10 +52,7 @@ meet-row-requires c κs =
     let i = c .before .before .before in
     let s = c .before .before .before .before .before .before .before .before .before .before in
     let a = s .args in
-    let l = i .before .loop in (
-      slices-each (a .chains) (a .specified .now) (a .bits .now) (s .pre .0) (l .slice) (i .loop-test .taken) .among,
-      row-fits (l .slice) (length (a .specified .now)) (a .chains) (length (a .table .now)) (i .loop-test .taken) (s .pre .1 .0),
-    )
+    row-asked (a .chains) (a .table .now) (a .specified .now) (a .bits .now) (s .pre .0) (s .pre .1 .0) (i .before .loop .slice) (i .loop-test .taken)
 
 same-length : tie.Need-same-length Inv-loop μ-loop
 same-length c = c .before .before .before .before .before .before .before .before .loop .inv .3 .long
