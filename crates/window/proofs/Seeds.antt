@@ -1,15 +1,15 @@
 -- The seed of a window, from the space that its bits and its closing stop allow.
 --     ready-fewer      tables of more rows serve fewer
 --     states-sound, states-complete, states-rising     the space of all states
---     seed-none        nothing is allowed: no state covers
---     seed-lowest      otherwise the seed is the lowest clear member; what is not clear may have gone out before
---     unmet            nor is there a seed where no state meets the slices and is clear
+--     unmet            where no state meets the slices and is clear, there is no seed
+--     seed-none        nor where no member is left
+--     seed-rising, seed-lowest     otherwise the vectors rise, and the seed is the lowest clear member; what is not clear may have gone out before
 -- Assumes nothing.
 use mathlib.Core.Path.{_≡_, refl, sym, ap, _∙_, subst}
 use mathlib.Core.Bool.{Bool, true, false, _&&_}
 use mathlib.Core.Option.{none}
 use mathlib.Core.List.{List}
-use Prim.Native.Nat.{ℕ, _+_, _%_, _^_, _≤_, _<_}
+use Prim.Native.Nat.{ℕ, suc, _+_, _%_, _^_, _≤_, _<_}
 use native.Mathlib.Nat.{mul-le-mul-right, lt-of-lt-of-le}
 use native.Mathlib.Omega.{arith}
 use lib.ListN.{length}
@@ -21,7 +21,8 @@ use Rattle.register.specs.declared.Settings.{Settings}
 use Rattle.register.specs.Machine.{Machine, machine}
 use Rattle.register.proofs.Causes.{cells-within}
 use Rattle.slices.specs.declared.TestSlice.{TestSlice}
-use Rattle.slices.specs.Slices.{badSlice}
+use Rattle.slices.specs.Slices.{badSlice, badSlices, paired}
+use Rattle.slices.proofs.Formed.{slices-length, slices-all}
 use Rattle.space.specs.declared.Space.{Space}
 use Rattle.space.specs.Space.{among, units, Rising, Member}
 use Rattle.space.proofs.Members.{among-is, is-among}
@@ -31,7 +32,9 @@ use Rattle.search.specs.Clauses.{clear}
 use Rattle.search.specs.Search.{foundOf, lowestClear}
 use Rattle.covering.specs.Covering.{covers, seedOf}
 use Rattle.window.specs.Ready.{Tabled, Ready}
-use Rattle.window.specs.Code.{allMeet, allowed, allStates, unitsOf, Narrows, Keeps, quietMeet}
+use Rattle.window.specs.Code.{allMeet, closed, allowed, allStates, unitsOf, Narrows, Keeps, quietMeet}
+use Rattle.window.proofs.Narrowing.{some-member}
+use Rattle.window.proofs.Fitting.{allowed-closed}
 use Rattle.window.proofs.Covering.{covers-tables}
 
 tabled-fewer : (taps m n : ℕ) (masks table : List ℕ) → m ≤ n → Tabled taps n masks table → Tabled taps m masks table
@@ -76,45 +79,67 @@ module _ (cells : ℕ) (few : cells ≤ 64) where
 
 -- ---- the seed
 
-module _ (g : Settings) (masks : List ℕ) (stop : TestSlice) (p : Pattern) (table clauses : List ℕ) (n : ℕ) (w : List TestSlice)
-    (r : Ready g masks stop p table clauses n) (h : length w < n) (f : any (badSlice (length masks)) w ≡ false) where
+-- who covers a window meets its slices and is clear in their rows
+pub unmet : (g : Settings) (masks : List ℕ) (stop : TestSlice) (p : Pattern) (table clauses : List ℕ) (n : ℕ) (w : List TestSlice) → Ready g masks stop p table clauses n → length w < n → any (badSlice (length masks)) w ≡ false
+    → (closing : Bool) → ((s : ℕ) → s < 2 ^ g .cells → quietMeet (length masks) table p clauses w s ≡ false) → seedOf (machine g masks) stop closing w ≡ none
+unfolding seedOf allowed quietMeet
+unmet g masks stop p table clauses n w r h f closing u = none-of (covers (machine g masks) stop closing w) (2 ^ g .cells) (λ s l.
+    fails (covers (machine g masks) stop closing w s) (λ t.
+    let q = allMeet (length masks) table 0 w s in
+    let k = clear p clauses (length w) s in
+    let a = both (allowed (length masks) table stop closing w s) k (sym (covers-tables g masks stop p table clauses n r w closing s h f) ∙ t) in
+    clash (quietMeet (length masks) table p clauses w s) (and-yes q k (both q _ (a .0) .0) (a .1)) (u s l)))
+
+-- from the states that meet the slices (x) over those of them that close the window (y) to what forced positions leave (z)
+module _ (g : Settings) (masks : List ℕ) (stop : TestSlice) (p : Pattern) (table clauses ps bs : List ℕ)
+    (r : Ready g masks stop p table clauses (suc (length ps))) (b : badSlices (length masks) ps bs ≡ false) (closing : Bool)
+    (x : Space) (us : List ℕ) (met : Narrows (allMeet (length masks) table 0 (paired ps bs)) (allStates (g .cells)) (unitsOf (g .cells)) x us)
+    (y : Space) (vs : List ℕ) (shut : Narrows (closed (length masks) table stop closing (length ps)) x us y vs)
+    (z : Space) (ws : List ℕ) (kept : Keeps (clear p clauses (length ps)) y vs z ws) where
   abbrev M : Machine
   M = machine g masks
 
-  abbrev c : ℕ
-  c = length masks
+  abbrev w : List TestSlice
+  w = paired ps bs
+
+  abbrev A : ℕ → Bool
+  A = allowed (length masks) table stop closing w
+
+  abbrev C : ℕ → Bool
+  C = clear p clauses (length ps)
 
   few : g .cells ≤ 64
   few = cells-within (g .cells) (g .taps) (r .register) .1
 
-  table-covers : (closing : Bool) (s : ℕ) → covers M stop closing w s ≡ (allowed c table stop closing w s && clear p clauses (length w) s)
-  table-covers closing s = covers-tables g masks stop p table clauses n r w closing s h f
+  long : length w ≡ length ps
+  long = slices-length (length masks) ps bs b
 
-  module _ (closing : Bool) (x : Space) (us : List ℕ) (cut : Narrows (allowed c table stop closing w) (allStates (g .cells)) (unitsOf (g .cells)) x us) (y : Space) (vs : List ℕ) (kept : Keeps (clear p clauses (length w)) x us y vs) where
-    pub seed-none : y .some ≡ false → seedOf M stop closing w ≡ none
-    unfolding seedOf
-    seed-none e = none-of (covers M stop closing w) (2 ^ g .cells) (λ s l.
-        fails (covers M stop closing w s) (λ t.
-        let a = both (allowed c table stop closing w s) (clear p clauses (length w) s) (sym (table-covers closing s) ∙ t) in
-        clash (y .some) (kept .complete s (cut .complete s (states-complete (g .cells) few s l) (a .0)) (a .1) .0) e))
+  cut : Narrows A (allStates (g .cells)) (unitsOf (g .cells)) y vs
+  cut = allowed-closed (length masks) table stop w (allStates (g .cells)) (unitsOf (g .cells)) x us y vs closing (length ps) long met shut
 
-    pub seed-lowest : y .some ≡ true → lowestClear p clauses (length w) (y .lowest) vs ≡ foundOf (seedOf M stop closing w)
-    unfolding seedOf lowestClear
-    seed-lowest e = ap foundOf (least-same (λ s. among (y .lowest) vs s && clear p clauses (length w) s) (covers M stop closing w) (2 ^ 64) (2 ^ g .cells)
-        (λ s l t.
-        let a = both (among (y .lowest) vs s) (clear p clauses (length w) s) t in
-        let m = cut .sound s (kept .sound s (e, a .0)) in
-        (states-sound (g .cells) few s (m .0), table-covers closing s ∙ and-yes (allowed c table stop closing w s) (clear p clauses (length w) s) (m .1) (a .1)))
-        (λ s l t.
-        let a = both (allowed c table stop closing w s) (clear p clauses (length w) s) (sym (table-covers closing s) ∙ t) in (
-          lt-of-lt-of-le l (pow-mono {i = g .cells} {j = 64} few),
-          and-yes (among (y .lowest) vs s) (clear p clauses (length w) s) (kept .complete s (cut .complete s (states-complete (g .cells) few s l) (a .0)) (a .1) .1) (a .1),
-        )))
+  covers-rows : (s : ℕ) → covers M stop closing w s ≡ (A s && C s)
+  covers-rows s = subst (λ (n : ℕ). covers M stop closing w s ≡ (A s && clear p clauses n s)) long
+      (covers-tables g masks stop p table clauses (suc (length ps)) r w closing s (omega (arith, long)) (slices-all (length masks) ps bs b))
 
-  -- who covers a window meets its slices and is clear in their rows
-  pub unmet : (closing : Bool) → ((s : ℕ) → s < 2 ^ g .cells → quietMeet c table p clauses w s ≡ false) → seedOf M stop closing w ≡ none
-  unfolding seedOf allowed quietMeet
-  unmet closing u = none-of (covers M stop closing w) (2 ^ g .cells) (λ s l.
+  pub seed-none : z .some ≡ false → seedOf M stop closing w ≡ none
+  unfolding seedOf
+  seed-none e = none-of (covers M stop closing w) (2 ^ g .cells) (λ s l.
       fails (covers M stop closing w s) (λ t.
-      let a = both (allowed c table stop closing w s) (clear p clauses (length w) s) (sym (table-covers closing s) ∙ t) in
-      clash (quietMeet c table p clauses w s) (and-yes (allMeet c table 0 w s) (clear p clauses (length w) s) (both (allMeet c table 0 w s) _ (a .0) .0) (a .1)) (u s l)))
+      let a = both (A s) (C s) (sym (covers-rows s) ∙ t) in
+      clash (z .some) (kept .complete s (cut .complete s (states-complete (g .cells) few s l) (a .0)) (a .1) .0) e))
+
+  pub seed-rising : z .some ≡ true → Rising (z .lowest) 0 ws
+  seed-rising e = kept .rising (cut .rising (states-rising (g .cells) few) (kept .sound (z .lowest) (some-member z ws e) .0)) e
+
+  pub seed-lowest : z .some ≡ true → lowestClear p clauses (length ps) (z .lowest) ws ≡ foundOf (seedOf M stop closing w)
+  unfolding seedOf lowestClear
+  seed-lowest e = ap foundOf (least-same (λ s. among (z .lowest) ws s && C s) (covers M stop closing w) (2 ^ 64) (2 ^ g .cells)
+      (λ s l t.
+      let a = both (among (z .lowest) ws s) (C s) t in
+      let m = cut .sound s (kept .sound s (e, a .0)) in
+      (states-sound (g .cells) few s (m .0), covers-rows s ∙ and-yes (A s) (C s) (m .1) (a .1)))
+      (λ s l t.
+      let a = both (A s) (C s) (sym (covers-rows s) ∙ t) in (
+        lt-of-lt-of-le l (pow-mono {i = g .cells} {j = 64} few),
+        and-yes (among (z .lowest) ws s) (C s) (kept .complete s (cut .complete s (states-complete (g .cells) few s l) (a .0)) (a .1) .1) (a .1),
+      )))

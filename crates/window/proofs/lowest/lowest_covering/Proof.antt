@@ -1,23 +1,17 @@
 -- `window::lowest::lowest_covering` meets its contract. Assumes nothing.
-use Rattle.window.proofs.Keeping.{keeps-none}
--- `window::lowest::lowest_covering` meets its contract. Assumes nothing.
 use mathlib.Core.Path.{sym, ap, _∙_}
-use Prim.Native.Nat.{ℕ, suc}
+use Prim.Native.Nat.{suc}
 use native.Mathlib.Omega.{arith}
 use native.Mathlib.Nat.{suc-mul}
 use lib.ListN.{length, take}
 use borrow.Author.Tests.{not-true, not-false}
-use Rattle.slices.specs.Slices.{paired}
-use Rattle.slices.proofs.Formed.{slice-formed, stop-slice, slices-length, slices-all}
+use Rattle.slices.proofs.Formed.{slice-formed, stop-slice}
 use Rattle.table.specs.Chosen.{chosen}
-use Rattle.search.specs.Search.{foundOf, lowestClear}
+use Rattle.search.specs.Search.{foundOf}
 use Rattle.search.specs.declared.Pattern.{Pattern}
 use Rattle.search.proofs.Reading.{row-fits}
-use Rattle.window.specs.Code.{allStates, unitsOf}
-use Rattle.window.proofs.Narrowing.{some-member}
-use Rattle.window.proofs.Fitting.{allowed-closed}
-use Rattle.window.proofs.Seeds.{states-rising, seed-none, seed-lowest}
-use Rattle.register.proofs.Causes.{cells-within}
+use Rattle.window.proofs.Keeping.{keeps-none}
+use Rattle.window.proofs.Seeds.{seed-none, seed-rising, seed-lowest}
 use borrow.Author.Needs.{needs}
 use Rattle.window.proofs.lowest.lowest_covering.Statement.{statement}
 use Rattle.window.proofs.lowest.lowest_covering.Tie as tie
@@ -36,11 +30,8 @@ returns c =
     let s = c .before .before .before .before .before .before .before .before .before .before in
     let a = s .args in
     let x = c .before .before .before .close in
-    let w = paired (a .specified .now) (a .bits .now) in
-    let n = slices-length (length (a .masks .now)) (a .specified .now) (a .bits .now) (s .pre .1 .0) in
     let us = take (x .result .free) (x .last .0) in
-    let k = allowed-closed (length (a .masks .now)) (a .table .now) (a .stop) w (allStates (a .settings .cells)) (unitsOf (a .settings .cells)) (a .space) (take (a .space .free) (a .vectors)) (x .result) us (a .closing) (length (a .specified .now)) n (s .pre .1 .1) (x .ensures) in
-    sym (ap foundOf (seed-none (a .settings) (a .masks .now) (a .stop) (a .pattern) (a .table .now) (a .clauses .now) (suc (length (a .specified .now))) w (s .pre .0) (omega arith) (slices-all (length (a .masks .now)) (a .specified .now) (a .bits .now) (s .pre .1 .0)) (a .closing) (x .result) us k (x .result) us (keeps-none _ (x .result) us) (not-true (x .result .some) (c .if1 .taken))))
+    sym (ap foundOf (seed-none (a .settings) (a .masks .now) (a .stop) (a .pattern) (a .table .now) (a .clauses .now) (a .specified .now) (a .bits .now) (s .pre .0) (s .pre .1 .0) (a .closing) (a .space) (take (a .space .free) (a .vectors)) (s .pre .1 .1) (x .result) us (x .ensures) (x .result) us (keeps-none _ (x .result) us) (not-true (x .result .some) (c .if1 .taken))))
 
 slice-aggregate-force : tie.Need-slice-aggregate-force
 slice-aggregate-force c = search needs
@@ -58,12 +49,9 @@ returns-2 c =
     let a = s .args in
     let x = c .before .before .before .before .before .before .before .before .close in
     let o = c .before .before .before .force in
-    let w = paired (a .specified .now) (a .bits .now) in
-    let n = slices-length (length (a .masks .now)) (a .specified .now) (a .bits .now) (s .pre .1 .0) in
     let us = take (x .result .free) (x .last .0) in
     let vs = take (o .result .free) (o .last .1 .1 .1 .0) in
-    let k = allowed-closed (length (a .masks .now)) (a .table .now) (a .stop) w (allStates (a .settings .cells)) (unitsOf (a .settings .cells)) (a .space) (take (a .space .free) (a .vectors)) (x .result) us (a .closing) (length (a .specified .now)) n (s .pre .1 .1) (x .ensures) in
-    sym (ap foundOf (seed-none (a .settings) (a .masks .now) (a .stop) (a .pattern) (a .table .now) (a .clauses .now) (suc (length (a .specified .now))) w (s .pre .0) (omega arith) (slices-all (length (a .masks .now)) (a .specified .now) (a .bits .now) (s .pre .1 .0)) (a .closing) (x .result) us k (o .result) vs (rw n (o .ensures)) (not-true (o .result .some) (c .if2 .taken))))
+    sym (ap foundOf (seed-none (a .settings) (a .masks .now) (a .stop) (a .pattern) (a .table .now) (a .clauses .now) (a .specified .now) (a .bits .now) (s .pre .0) (s .pre .1 .0) (a .closing) (a .space) (take (a .space .free) (a .vectors)) (s .pre .1 .1) (x .result) us (x .ensures) (o .result) vs (o .ensures) (not-true (o .result .some) (c .if2 .taken))))
 
 lowest-clear-requires : tie.Need-lowest-clear-requires
 lowest-clear-requires c κs =
@@ -71,14 +59,10 @@ lowest-clear-requires c κs =
     let a = s .args in
     let x = c .before .before .before .before .before .before .before .before .close in
     let o = c .before .before .before .force in
-    let w = paired (a .specified .now) (a .bits .now) in
-    let n = slices-length (length (a .masks .now)) (a .specified .now) (a .bits .now) (s .pre .1 .0) in
     let us = take (x .result .free) (x .last .0) in
     let vs = take (o .result .free) (o .last .1 .1 .1 .0) in
-    let k = allowed-closed (length (a .masks .now)) (a .table .now) (a .stop) w (allStates (a .settings .cells)) (unitsOf (a .settings .cells)) (a .space) (take (a .space .free) (a .vectors)) (x .result) us (a .closing) (length (a .specified .now)) n (s .pre .1 .1) (x .ensures) in
-    let e = ap (λ (p : Pattern). p .columns) (s .pre .0 .pattern) in
-    let some = not-false (o .result .some) (c .if2 .left) in (
-      o .ensures .rising (k .rising (states-rising (a .settings .cells) (cells-within (a .settings .cells) (a .settings .taps) (s .pre .0 .register) .1)) (o .ensures .sound (o .result .lowest) (some-member (o .result) vs some) .0)) some,
+    let e = ap (λ (p : Pattern). p .columns) (s .pre .0 .pattern) in (
+      seed-rising (a .settings) (a .masks .now) (a .stop) (a .pattern) (a .table .now) (a .clauses .now) (a .specified .now) (a .bits .now) (s .pre .0) (s .pre .1 .0) (a .closing) (a .space) (take (a .space .free) (a .vectors)) (s .pre .1 .1) (x .result) us (x .ensures) (o .result) vs (o .ensures) (not-false (o .result .some) (c .if2 .left)),
       rw e (omega (arith, suc-mul (length (a .specified .now)) (length (chosen (a .stop .specified) (a .masks .now))), s .pre .0 .clauses .long)),
     )
 
@@ -88,14 +72,10 @@ returns-3 c =
     let a = s .args in
     let x = c .before .before .before .before .before .before .before .before .before .close in
     let o = c .before .before .before .before .force in
-    let w = paired (a .specified .now) (a .bits .now) in
-    let n = slices-length (length (a .masks .now)) (a .specified .now) (a .bits .now) (s .pre .1 .0) in
     let us = take (x .result .free) (x .last .0) in
     let vs = take (o .result .free) (o .last .1 .1 .1 .0) in
-    let k = allowed-closed (length (a .masks .now)) (a .table .now) (a .stop) w (allStates (a .settings .cells)) (unitsOf (a .settings .cells)) (a .space) (take (a .space .free) (a .vectors)) (x .result) us (a .closing) (length (a .specified .now)) n (s .pre .1 .1) (x .ensures) in
     c .lowest-clear .ensures
-    ∙ ap (λ (m : ℕ). lowestClear (a .pattern) (a .clauses .now) m (o .result .lowest) vs) (sym n)
-    ∙ seed-lowest (a .settings) (a .masks .now) (a .stop) (a .pattern) (a .table .now) (a .clauses .now) (suc (length (a .specified .now))) w (s .pre .0) (omega arith) (slices-all (length (a .masks .now)) (a .specified .now) (a .bits .now) (s .pre .1 .0)) (a .closing) (x .result) us k (o .result) vs (rw n (o .ensures)) (not-false (o .result .some) (c .before .if2 .left))
+    ∙ seed-lowest (a .settings) (a .masks .now) (a .stop) (a .pattern) (a .table .now) (a .clauses .now) (a .specified .now) (a .bits .now) (s .pre .0) (s .pre .1 .0) (a .closing) (a .space) (take (a .space .free) (a .vectors)) (s .pre .1 .1) (x .result) us (x .ensures) (o .result) vs (o .ensures) (not-false (o .result .some) (c .before .if2 .left))
 
 pub lowest-covering-spec : {M : Type 1} → statement M
 lowest-covering-spec =
