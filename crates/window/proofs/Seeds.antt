@@ -1,5 +1,6 @@
 -- The seed of a window, from the space that its bits and its closing stop allow.
 --     ready-fewer      tables of more rows serve fewer
+--     stop-rows        the stop's table has a row for each slice
 --     states-sound, states-complete, states-rising     the space of all states
 --     unmet            where no state meets the slices and is clear, there is no seed
 --     seed-none        nor where no member is left
@@ -9,8 +10,8 @@ use mathlib.Core.Path.{_≡_, refl, sym, ap, _∙_, subst}
 use mathlib.Core.Bool.{Bool, true, false, _&&_}
 use mathlib.Core.Option.{none}
 use mathlib.Core.List.{List}
-use Prim.Native.Nat.{ℕ, suc, _+_, _%_, _^_, _≤_, _<_}
-use native.Mathlib.Nat.{mul-le-mul-right, lt-of-lt-of-le}
+use Prim.Native.Nat.{ℕ, suc, _+_, _*_, _%_, _^_, _≤_, _<_}
+use native.Mathlib.Nat.{suc-mul, mul-le-mul-right, lt-of-lt-of-le}
 use native.Mathlib.Omega.{arith}
 use lib.ListN.{length}
 use lib.Pow.{pow-mono}
@@ -30,6 +31,7 @@ use Rattle.space.proofs.AllStates.{units-take, units-sound, units-complete, uni
 use Rattle.search.specs.declared.Pattern.{Pattern}
 use Rattle.search.specs.Clauses.{clear}
 use Rattle.search.specs.Search.{foundOf, lowestClear}
+use Rattle.table.specs.Chosen.{chosen}
 use Rattle.covering.specs.Covering.{covers, seedOf}
 use Rattle.window.specs.Ready.{Tabled, Ready}
 use Rattle.window.specs.Code.{allMeet, closed, allowed, allStates, unitsOf, Narrows, Keeps, quietMeet}
@@ -53,6 +55,11 @@ ready-fewer g masks stop p table clauses m n h r = record {
   table = tabled-fewer (g .taps) m n masks table h (r .table);
   clauses = tabled-fewer (g .taps) m n _ clauses h (r .clauses);
 }
+
+pub stop-rows : (g : Settings) (masks : List ℕ) (stop : TestSlice) (p : Pattern) (table clauses : List ℕ) (n : ℕ) → Ready g masks stop p table clauses (suc n) → n * p .columns ≤ length clauses
+stop-rows g masks stop p table clauses n r =
+    let e = ap (λ (q : Pattern). q .columns) (r .pattern) in
+    rw e (omega (arith, suc-mul n (length (chosen (stop .specified) masks)), r .clauses .long))
 
 -- ---- all states
 

@@ -1,11 +1,9 @@
 -- `window::reach` meets its contract. Assumes nothing.
-use mathlib.Core.Path.{ap}
 use native.Mathlib.Omega.{arith}
 use native.Mathlib.Nat.{suc-mul}
 use lib.ListN.{length}
 use Rattle.register.proofs.Causes.{cells-within}
-use Rattle.search.specs.declared.Pattern.{Pattern}
-use Rattle.table.specs.Chosen.{chosen}
+use Rattle.window.proofs.Seeds.{stop-rows}
 use borrow.Author.Needs.{needs}
 use Rattle.window.proofs.reach.Statement.{statement}
 use Rattle.window.proofs.reach.Tie as tie
@@ -13,14 +11,13 @@ use Rattle.window.proofs.reach.Tie as tie
 most-quiet-requires : tie.Need-most-quiet-requires
 most-quiet-requires c κs =
     let s = c .before .before .before .before .before in
-    let a = s .args in
-    let e = ap (λ (p : Pattern). p .columns) (s .pre .0 .pattern) in (
+    let a = s .args in (
       s .pre .1,
       (
         omega (arith, suc-mul (length (a .specified .now)) (length (a .masks .now)), s .pre .0 .table .long),
         (
           cells-within (a .settings .cells) (a .settings .taps) (s .pre .0 .register) .1,
-          rw e (omega (arith, suc-mul (length (a .specified .now)) (length (chosen (a .stop .specified) (a .masks .now))), s .pre .0 .clauses .long)),
+          stop-rows (a .settings) (a .masks .now) (a .stop) (a .pattern) (a .table .now) (a .clauses .now) (length (a .specified .now)) (s .pre .0),
         ),
       ),
     )

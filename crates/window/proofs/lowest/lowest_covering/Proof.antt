@@ -2,16 +2,13 @@
 use mathlib.Core.Path.{sym, ap, _∙_}
 use Prim.Native.Nat.{suc}
 use native.Mathlib.Omega.{arith}
-use native.Mathlib.Nat.{suc-mul}
 use lib.ListN.{length, take}
 use borrow.Author.Tests.{not-true, not-false}
 use Rattle.slices.proofs.Formed.{slice-formed, stop-slice}
-use Rattle.table.specs.Chosen.{chosen}
 use Rattle.search.specs.Search.{foundOf}
-use Rattle.search.specs.declared.Pattern.{Pattern}
 use Rattle.search.proofs.Reading.{row-fits}
 use Rattle.window.proofs.Keeping.{keeps-none}
-use Rattle.window.proofs.Seeds.{seed-none, seed-rising, seed-lowest}
+use Rattle.window.proofs.Seeds.{stop-rows, seed-none, seed-rising, seed-lowest}
 use borrow.Author.Needs.{needs}
 use Rattle.window.proofs.lowest.lowest_covering.Statement.{statement}
 use Rattle.window.proofs.lowest.lowest_covering.Tie as tie
@@ -40,8 +37,7 @@ force-requires : tie.Need-force-requires
 force-requires c κs =
     let s = c .before .before .before .before .before .before .before .before .before .before .before in
     let a = s .args in
-    let e = ap (λ (p : Pattern). p .columns) (s .pre .0 .pattern) in
-    rw e (omega (arith, suc-mul (length (a .specified .now)) (length (chosen (a .stop .specified) (a .masks .now))), s .pre .0 .clauses .long))
+    stop-rows (a .settings) (a .masks .now) (a .stop) (a .pattern) (a .table .now) (a .clauses .now) (length (a .specified .now)) (s .pre .0)
 
 returns-2 : tie.Need-returns-2
 returns-2 c =
@@ -60,10 +56,9 @@ lowest-clear-requires c κs =
     let x = c .before .before .before .before .before .before .before .before .close in
     let o = c .before .before .before .force in
     let us = take (x .result .free) (x .last .0) in
-    let vs = take (o .result .free) (o .last .1 .1 .1 .0) in
-    let e = ap (λ (p : Pattern). p .columns) (s .pre .0 .pattern) in (
+    let vs = take (o .result .free) (o .last .1 .1 .1 .0) in (
       seed-rising (a .settings) (a .masks .now) (a .stop) (a .pattern) (a .table .now) (a .clauses .now) (a .specified .now) (a .bits .now) (s .pre .0) (s .pre .1 .0) (a .closing) (a .space) (take (a .space .free) (a .vectors)) (s .pre .1 .1) (x .result) us (x .ensures) (o .result) vs (o .ensures) (not-false (o .result .some) (c .if2 .left)),
-      rw e (omega (arith, suc-mul (length (a .specified .now)) (length (chosen (a .stop .specified) (a .masks .now))), s .pre .0 .clauses .long)),
+      stop-rows (a .settings) (a .masks .now) (a .stop) (a .pattern) (a .table .now) (a .clauses .now) (length (a .specified .now)) (s .pre .0),
     )
 
 returns-3 : tie.Need-returns-3
