@@ -75,11 +75,12 @@ pub fn tried(cells: usize, slices: usize) -> usize {
     }
 }
 
-/// A number of cells: mostly few, so that a search is short.
+/// A number of cells: mostly few, so that a search is short, or 64, where shifts of a word have a case of their own.
 fn cells(bytes: &mut Bytes) -> usize {
     match bytes.byte() {
         byte @ 0..=199 => 1 + usize::from(byte) % 18,
-        byte @ 200..=246 => 18 + usize::from(byte - 200),
+        byte @ 200..=238 => 19 + usize::from(byte - 200),
+        239..=250 => 64,
         _ => bytes.number(64),
     }
 }
