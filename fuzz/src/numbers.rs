@@ -67,6 +67,27 @@ impl Parts {
     }
 }
 
+/// The entry for cubes, with the answer as the library gives it.
+impl Parts {
+    fn encoded_cubes(&self, out: &mut [u64]) -> CubesAnswer {
+        unsafe {
+            raw::seeds_encode_cubes(
+                self.cells,
+                self.taps,
+                self.masks.as_ptr(),
+                self.masks.len(),
+                self.depth,
+                self.specified.as_ptr(),
+                self.specified.len(),
+                self.bits.as_ptr(),
+                self.bits.len(),
+                out.as_mut_ptr(),
+                out.len(),
+            )
+        }
+    }
+}
+
 /// The register rule and the comparisons of slices. Outside what is lawful, where no refusal is given, document 01 says nothing:
 /// taps and state are cut to the cells, and the stop's bits to its positions.
 fn leaves(p: &Parts, word: u64) {
@@ -217,21 +238,7 @@ fn cubes(p: &Parts, choice: u8) {
         _ => (0, 0, 0),
     };
     let written = if number == 0 { &seeds[..value] } else { &[] };
-    let ours = lend(room, written, entry, |out| unsafe {
-        raw::seeds_encode_cubes(
-            p.cells,
-            p.taps,
-            p.masks.as_ptr(),
-            p.masks.len(),
-            p.depth,
-            set.specified.as_ptr(),
-            set.specified.len(),
-            set.bits.as_ptr(),
-            set.bits.len(),
-            out.as_mut_ptr(),
-            out.len(),
-        )
-    });
+    let ours = lend(room, written, entry, |out| p.encoded_cubes(out));
     let known = CubesAnswer {
         number,
         value,
