@@ -2,8 +2,9 @@
 
 use crate::call::Call;
 use second::Refused;
-use seeds::raw;
 pub use seeds::raw::{Answer, CubesAnswer, SeedAnswer, StopAnswer, TextAnswer};
+use seeds::{entries, raw, Machine, TestSlice, TestSlices};
+pub use seeds::{slice, step};
 
 /// The second program's answer as the library gives it.
 pub trait Like<T> {
@@ -58,46 +59,26 @@ impl Like<(u64, u64, usize)> for CubesAnswer {
     }
 }
 
-pub fn step(cells: usize, taps: u64, state: u64) -> u64 {
-    unsafe { raw::seeds_step(cells, taps, state) }
-}
-
-pub fn slice(masks: &[u64], state: u64) -> u64 {
-    unsafe { raw::seeds_slice(masks.as_ptr(), masks.len(), state) }
+/// A test slice or stop slice of two numbers.
+fn test((specified, bits): (u64, u64)) -> TestSlice {
+    TestSlice { specified, bits }
 }
 
 pub fn agrees(specified: u64, bits: u64, slice: u64) -> bool {
-    unsafe { raw::seeds_agrees(specified, bits, slice) }
+    seeds::agrees(test((specified, bits)), slice)
 }
 
 pub fn shows(stop: (u64, u64), slice: u64) -> bool {
-    unsafe { raw::seeds_shows(stop.0, stop.1, slice) }
+    seeds::shows(test(stop), slice)
 }
 
 /// How many test slices have the stop's bit specified at each of its specified positions.
 pub fn count_in(stop: (u64, u64), specified: &[u64], bits: &[u64]) -> usize {
-    unsafe {
-        raw::seeds_count_in(
-            stop.0,
-            stop.1,
-            specified.as_ptr(),
-            specified.len(),
-            bits.as_ptr(),
-            bits.len(),
-        )
-    }
+    seeds::count_in(test(stop), TestSlices { specified, bits })
 }
 
 pub fn stop(chains: usize, specified: &[u64], bits: &[u64]) -> StopAnswer {
-    unsafe {
-        raw::seeds_stop(
-            chains,
-            specified.as_ptr(),
-            specified.len(),
-            bits.as_ptr(),
-            bits.len(),
-        )
-    }
+    entries::stop(chains, TestSlices { specified, bits })
 }
 
 /// The seed list of a sheet. The text is lent to be changed, so that a change can be seen.
@@ -111,156 +92,69 @@ pub fn expand_text(text: &mut [u8], out: &mut [u8]) -> TextAnswer {
 }
 
 impl Call {
-    pub fn check_window(&self) -> usize {
-        unsafe {
-            raw::seeds_check_window(
-                self.cells,
-                self.taps,
-                self.masks.as_ptr(),
-                self.masks.len(),
-                self.stop.0,
-                self.stop.1,
-                self.specified.as_ptr(),
-                self.specified.len(),
-                self.bits.as_ptr(),
-                self.bits.len(),
-            )
+    fn machine(&self) -> Machine<'_> {
+        Machine {
+            cells: self.cells,
+            taps: self.taps,
+            masks: &self.masks,
         }
+    }
+
+    fn set(&self) -> TestSlices<'_> {
+        TestSlices {
+            specified: &self.specified,
+            bits: &self.bits,
+        }
+    }
+
+    pub fn check_window(&self) -> usize {
+        entries::check_window(self.machine(), test(self.stop), self.set())
     }
 
     pub fn check_set(&self) -> usize {
-        unsafe {
-            raw::seeds_check_set(
-                self.cells,
-                self.taps,
-                self.masks.as_ptr(),
-                self.masks.len(),
-                self.stop.0,
-                self.stop.1,
-                self.specified.as_ptr(),
-                self.specified.len(),
-                self.bits.as_ptr(),
-                self.bits.len(),
-            )
-        }
+        entries::check_set(self.machine(), test(self.stop), self.set())
     }
 
     pub fn check_cubes(&self) -> usize {
-        unsafe {
-            raw::seeds_check_cubes(
-                self.cells,
-                self.taps,
-                self.masks.as_ptr(),
-                self.masks.len(),
-                self.depth,
-                self.specified.as_ptr(),
-                self.specified.len(),
-                self.bits.as_ptr(),
-                self.bits.len(),
-            )
-        }
+        entries::check_cubes(self.machine(), self.depth, self.set())
     }
 
     pub fn check_stop(&self) -> usize {
-        unsafe {
-            raw::seeds_check_stop(
-                self.masks.len(),
-                self.specified.as_ptr(),
-                self.specified.len(),
-                self.bits.as_ptr(),
-                self.bits.len(),
-            )
-        }
+        entries::check_stop(self.masks.len(), self.set())
     }
 
     pub fn check_list(&self) -> usize {
-        unsafe {
-            raw::seeds_check_list(
-                self.cells,
-                self.taps,
-                self.masks.as_ptr(),
-                self.masks.len(),
-                self.stop.0,
-                self.stop.1,
-                self.slices,
-                self.seeds.len(),
-            )
-        }
+        entries::check_list(
+            self.machine(),
+            test(self.stop),
+            self.slices,
+            self.seeds.len(),
+        )
     }
 
     /// The expanding of the call's own seeds.
     pub fn expanded(&self, out: &mut [u64]) -> Answer {
-        unsafe {
-            raw::seeds_expand(
-                self.cells,
-                self.taps,
-                self.masks.as_ptr(),
-                self.masks.len(),
-                self.stop.0,
-                self.stop.1,
-                self.slices,
-                self.seeds.as_ptr(),
-                self.seeds.len(),
-                out.as_mut_ptr(),
-                out.len(),
-            )
-        }
+        entries::expand(
+            self.machine(),
+            test(self.stop),
+            self.slices,
+            &self.seeds,
+            out,
+        )
     }
 
     /// The seed of the call's slices as one window.
     pub fn seed_of_window(&self) -> SeedAnswer {
-        unsafe {
-            raw::seeds_window(
-                self.cells,
-                self.taps,
-                self.masks.as_ptr(),
-                self.masks.len(),
-                self.stop.0,
-                self.stop.1,
-                self.specified.as_ptr(),
-                self.specified.len(),
-                self.bits.as_ptr(),
-                self.bits.len(),
-            )
-        }
+        entries::window(self.machine(), test(self.stop), self.set())
     }
 
     /// The encoding of the call's slices with its stop slice.
     pub fn encoded_set(&self, out: &mut [u64]) -> Answer {
-        unsafe {
-            raw::seeds_encode_set(
-                self.cells,
-                self.taps,
-                self.masks.as_ptr(),
-                self.masks.len(),
-                self.stop.0,
-                self.stop.1,
-                self.specified.as_ptr(),
-                self.specified.len(),
-                self.bits.as_ptr(),
-                self.bits.len(),
-                out.as_mut_ptr(),
-                out.len(),
-            )
-        }
+        entries::encode_set(self.machine(), test(self.stop), self.set(), out)
     }
 
     /// The encoding of the call's slices as cubes, with the stop slice by the steps.
     pub fn encoded_cubes(&self, out: &mut [u64]) -> CubesAnswer {
-        unsafe {
-            raw::seeds_encode_cubes(
-                self.cells,
-                self.taps,
-                self.masks.as_ptr(),
-                self.masks.len(),
-                self.depth,
-                self.specified.as_ptr(),
-                self.specified.len(),
-                self.bits.as_ptr(),
-                self.bits.len(),
-                out.as_mut_ptr(),
-                out.len(),
-            )
-        }
+        entries::encode_cubes(self.machine(), self.depth, self.set(), out)
     }
 }

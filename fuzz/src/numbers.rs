@@ -5,7 +5,7 @@ use crate::lent::{lend, room};
 use crate::parts::{weights, Bytes, Parts};
 use second::Refused;
 use seeds::raw::{Answer, CubesAnswer, SeedAnswer, StopAnswer};
-use seeds::{raw, Machine, TestSlice, TestSlices};
+use seeds::{entries, Machine, TestSlice, TestSlices};
 
 /// The number and value of an answer, where `Ok` has the value of an accepted call.
 fn told(answer: Result<usize, Refused>) -> Answer {
@@ -30,10 +30,10 @@ fn short(answer: Result<usize, Refused>, room: usize) -> Answer {
 }
 
 /// The verdict of a check: the refusal's number where it is at most 5, otherwise 0.
-fn verdict(answer: Answer) -> Result<(), usize> {
+fn verdict(answer: Answer) -> usize {
     match answer.number {
-        number @ 1..=5 => Err(number),
-        _ => Ok(()),
+        number @ 1..=5 => number,
+        _ => 0,
     }
 }
 
@@ -63,27 +63,6 @@ impl Parts {
         TestSlices {
             specified: &self.specified,
             bits: &self.bits,
-        }
-    }
-}
-
-/// The entry for cubes, with the answer as the library gives it.
-impl Parts {
-    fn encoded_cubes(&self, out: &mut [u64]) -> CubesAnswer {
-        unsafe {
-            raw::seeds_encode_cubes(
-                self.cells,
-                self.taps,
-                self.masks.as_ptr(),
-                self.masks.len(),
-                self.depth,
-                self.specified.as_ptr(),
-                self.specified.len(),
-                self.bits.as_ptr(),
-                self.bits.len(),
-                out.as_mut_ptr(),
-                out.len(),
-            )
         }
     }
 }
@@ -119,15 +98,7 @@ fn stop(p: &Parts) {
     let (specified, bits) = theirs.unwrap_or((0, 0));
     let Answer { number, value } = told(theirs.map(|_| 0));
     let (chains, set) = (p.masks.len(), p.set());
-    let ours = unsafe {
-        raw::seeds_stop(
-            chains,
-            set.specified.as_ptr(),
-            set.specified.len(),
-            set.bits.as_ptr(),
-            set.bits.len(),
-        )
-    };
+    let ours = entries::stop(chains, set);
     let known = StopAnswer {
         number,
         value,
@@ -135,7 +106,7 @@ fn stop(p: &Parts) {
         bits,
     };
     assert_eq!(ours, known, "the stop slice");
-    let checked = seeds::check_stop(chains, set).map_err(|refusal| refusal.number);
+    let checked = entries::check_stop(chains, set);
     assert_eq!(checked, verdict(Answer { number, value }), "the check");
 }
 
@@ -153,27 +124,14 @@ fn window(p: &Parts) {
     );
     let seed = theirs.unwrap_or(0);
     let Answer { number, value } = told(theirs.map(|_| 0));
-    let ours = unsafe {
-        raw::seeds_window(
-            p.cells,
-            p.taps,
-            p.masks.as_ptr(),
-            p.masks.len(),
-            stop.specified,
-            stop.bits,
-            set.specified.as_ptr(),
-            set.specified.len(),
-            set.bits.as_ptr(),
-            set.bits.len(),
-        )
-    };
+    let ours = entries::window(p.machine(), stop, set);
     let known = SeedAnswer {
         number,
         value,
         seed,
     };
     assert_eq!(ours, known, "the seed");
-    let checked = seeds::check_window(p.machine(), stop, set).map_err(|refusal| refusal.number);
+    let checked = entries::check_window(p.machine(), stop, set);
     assert_eq!(checked, verdict(Answer { number, value }), "the check");
 }
 
@@ -198,23 +156,11 @@ fn set(p: &Parts, choice: u8) {
         _ => &[],
     };
     let ours = lend(room, written, entry, |out| {
-        seeds::encode_set(p.machine(), stop, set, out)
+        entries::encode_set(p.machine(), stop, set, out)
     });
-    assert_eq!(
-        ours.map_err(|r| (r.number, r.value)),
-        result(known),
-        "the set"
-    );
-    let checked = seeds::check_set(p.machine(), stop, set).map_err(|refusal| refusal.number);
+    assert_eq!(ours, known, "the set");
+    let checked = entries::check_set(p.machine(), stop, set);
     assert_eq!(checked, verdict(told(theirs)), "the check");
-}
-
-/// An answer as the wrapper gives it.
-fn result(answer: Answer) -> Result<usize, (usize, usize)> {
-    match answer.number {
-        0 => Ok(answer.value),
-        number => Err((number, answer.value)),
-    }
 }
 
 /// The encoding of cubes and its check.
@@ -238,7 +184,9 @@ fn cubes(p: &Parts, choice: u8) {
         _ => (0, 0, 0),
     };
     let written = if number == 0 { &seeds[..value] } else { &[] };
-    let ours = lend(room, written, entry, |out| p.encoded_cubes(out));
+    let ours = lend(room, written, entry, |out| {
+        entries::encode_cubes(p.machine(), p.depth, set, out)
+    });
     let known = CubesAnswer {
         number,
         value,
@@ -246,7 +194,7 @@ fn cubes(p: &Parts, choice: u8) {
         bits,
     };
     assert_eq!(ours, known, "the cubes");
-    let checked = seeds::check_cubes(p.machine(), p.depth, set).map_err(|refusal| refusal.number);
+    let checked = entries::check_cubes(p.machine(), p.depth, set);
     assert_eq!(checked, verdict(told(count)), "the check");
 }
 
@@ -271,15 +219,10 @@ fn expanding(p: &Parts, choice: u8) {
         _ => &[],
     };
     let ours = lend(room, written, entry, |out| {
-        seeds::expand(p.machine(), stop, p.slices, &p.seeds, out)
+        entries::expand(p.machine(), stop, p.slices, &p.seeds, out)
     });
-    assert_eq!(
-        ours.map_err(|r| (r.number, r.value)),
-        result(known),
-        "the slices"
-    );
-    let checked = seeds::check_list(p.machine(), stop, p.slices, p.seeds.len());
-    let checked = checked.map_err(|refusal| refusal.number);
+    assert_eq!(ours, known, "the slices");
+    let checked = entries::check_list(p.machine(), stop, p.slices, p.seeds.len());
     assert_eq!(checked, verdict(told(theirs)), "the check");
 }
 

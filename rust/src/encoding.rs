@@ -1,7 +1,7 @@
 // The stop slice of a set, the seed of a window and the fewest seeds of a set.
 // Document 01, "Stop slice steps" and "Covering and cutting".
 
-use crate::{raw, Machine, Refusal, TestSlice, TestSlices};
+use crate::{entries, Machine, Refusal, TestSlice, TestSlices};
 
 /// An accepted set that came as cubes: its stop slice, and how many seeds were written.
 #[derive(Clone, Copy, Debug, PartialEq, Eq)]
@@ -10,31 +10,9 @@ pub struct Encoded {
     pub seeds: usize,
 }
 
-/// How many test slices have the stop's bit specified at each specified position of the stop; of two lists unequally long, the shorter counts.
-pub fn count_in(stop: TestSlice, set: TestSlices) -> usize {
-    unsafe {
-        raw::seeds_count_in(
-            stop.specified,
-            stop.bits,
-            set.specified.as_ptr(),
-            set.specified.len(),
-            set.bits.as_ptr(),
-            set.bits.len(),
-        )
-    }
-}
-
 /// The stop slice of a set. Causes 2, 3, 4, then 6.
 pub fn stop_slice(chains: usize, set: TestSlices) -> Result<TestSlice, Refusal> {
-    let told = unsafe {
-        raw::seeds_stop(
-            chains,
-            set.specified.as_ptr(),
-            set.specified.len(),
-            set.bits.as_ptr(),
-            set.bits.len(),
-        )
-    };
+    let told = entries::stop(chains, set);
     Refusal::unless_accepted(told.number, told.value)?;
     Ok(TestSlice {
         specified: told.specified,
@@ -44,20 +22,7 @@ pub fn stop_slice(chains: usize, set: TestSlices) -> Result<TestSlice, Refusal> 
 
 /// The lowest state that covers a window. Causes 1 to 5, then 7.
 pub fn window_seed(machine: Machine, stop: TestSlice, window: TestSlices) -> Result<u64, Refusal> {
-    let told = unsafe {
-        raw::seeds_window(
-            machine.cells,
-            machine.taps,
-            machine.masks.as_ptr(),
-            machine.masks.len(),
-            stop.specified,
-            stop.bits,
-            window.specified.as_ptr(),
-            window.specified.len(),
-            window.bits.as_ptr(),
-            window.bits.len(),
-        )
-    };
+    let told = entries::window(machine, stop, window);
     Refusal::unless_accepted(told.number, told.value)?;
     Ok(told.seed)
 }
@@ -80,22 +45,7 @@ pub fn encode_set(
     set: TestSlices,
     out: &mut [u64],
 ) -> Result<usize, Refusal> {
-    let told = unsafe {
-        raw::seeds_encode_set(
-            machine.cells,
-            machine.taps,
-            machine.masks.as_ptr(),
-            machine.masks.len(),
-            stop.specified,
-            stop.bits,
-            set.specified.as_ptr(),
-            set.specified.len(),
-            set.bits.as_ptr(),
-            set.bits.len(),
-            out.as_mut_ptr(),
-            out.len(),
-        )
-    };
+    let told = entries::encode_set(machine, stop, set, out);
     Refusal::unless_accepted(told.number, told.value)?;
     Ok(told.value)
 }
@@ -107,21 +57,7 @@ pub fn encode_cubes(
     set: TestSlices,
     out: &mut [u64],
 ) -> Result<Encoded, Refusal> {
-    let told = unsafe {
-        raw::seeds_encode_cubes(
-            machine.cells,
-            machine.taps,
-            machine.masks.as_ptr(),
-            machine.masks.len(),
-            depth,
-            set.specified.as_ptr(),
-            set.specified.len(),
-            set.bits.as_ptr(),
-            set.bits.len(),
-            out.as_mut_ptr(),
-            out.len(),
-        )
-    };
+    let told = entries::encode_cubes(machine, depth, set, out);
     Refusal::unless_accepted(told.number, told.value)?;
     Ok(Encoded {
         stop: TestSlice {

@@ -1,6 +1,6 @@
 // The slices of a seed list. Document 01, "Refusal sheet", the causes of expanding.
 
-use crate::{raw, Machine, Refusal, TestSlice};
+use crate::{entries, Machine, Refusal, TestSlice};
 
 /// The slices of a seed list, written into `out`; how many. Causes 1, 2, 3, 5, then 10, 11, 12 of the first refused seed, then 14, then 9.
 pub fn expand(
@@ -10,21 +10,7 @@ pub fn expand(
     seeds: &[u64],
     out: &mut [u64],
 ) -> Result<usize, Refusal> {
-    let told = unsafe {
-        raw::seeds_expand(
-            machine.cells,
-            machine.taps,
-            machine.masks.as_ptr(),
-            machine.masks.len(),
-            stop.specified,
-            stop.bits,
-            slices,
-            seeds.as_ptr(),
-            seeds.len(),
-            out.as_mut_ptr(),
-            out.len(),
-        )
-    };
+    let told = entries::expand(machine, stop, slices, seeds, out);
     Refusal::unless_accepted(told.number, told.value)?;
     Ok(told.value)
 }

@@ -9,16 +9,17 @@
 
 mod checks;
 mod encoding;
+pub mod entries;
 mod expanding;
-mod leaves;
 pub mod raw;
 mod refusal;
 mod texts;
 
 pub use checks::{check_cubes, check_list, check_set, check_stop, check_window};
-pub use encoding::{count_in, encode_cubes, encode_set, stop_slice, window_seed, Encoded};
+pub use encoding::{encode_cubes, encode_set, stop_slice, window_seed, Encoded};
+pub use entries::{agrees, count_in, shows, slice, step};
 pub use expanding::expand;
-pub use leaves::{agrees, shows, slice, step};
+
 pub use refusal::Refusal;
 pub use texts::{encode_sheet, encode_text, expand_list, expand_text, Written, LONGEST_OUTPUT};
 

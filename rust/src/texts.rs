@@ -1,6 +1,7 @@
 // The text calls: a sheet to its seed list, a seed list to its slice lines. Document 01, "Sheet and seed list".
 
-use crate::{raw, Refusal};
+use crate::raw::TextAnswer;
+use crate::{entries, Refusal};
 
 /// Bytes of the longest text that a call writes: 2,048 slice lines of 64 chains.
 pub const LONGEST_OUTPUT: usize = 2048 * (b"slice=\n".len() + 64);
@@ -13,7 +14,7 @@ pub struct Written {
 }
 
 /// A text call's answer.
-fn written(told: raw::TextAnswer) -> Result<Written, Refusal> {
+fn written(told: TextAnswer) -> Result<Written, Refusal> {
     Refusal::unless_accepted(told.number, told.value)?;
     Ok(Written {
         bytes: told.value,
@@ -23,16 +24,12 @@ fn written(told: raw::TextAnswer) -> Result<Written, Refusal> {
 
 /// The seed list of a sheet, written into `out`. The first refused line, then the checks over the whole, then 9 with the bytes needed.
 pub fn encode_text(sheet: &[u8], out: &mut [u8]) -> Result<Written, Refusal> {
-    written(unsafe {
-        raw::seeds_encode_text(sheet.as_ptr(), sheet.len(), out.as_mut_ptr(), out.len())
-    })
+    written(entries::encode_text(sheet, out))
 }
 
 /// The slice lines of a seed list, written into `out`. Refused in the same order.
 pub fn expand_text(list: &[u8], out: &mut [u8]) -> Result<Written, Refusal> {
-    written(unsafe {
-        raw::seeds_expand_text(list.as_ptr(), list.len(), out.as_mut_ptr(), out.len())
-    })
+    written(entries::expand_text(list, out))
 }
 
 /// The text that a call writes into a buffer that is always long enough.

@@ -34,7 +34,7 @@ fn file(path: &str) -> String {
 }
 
 /// What stands between two marks, and what follows.
-fn between<'a>(text: &'a str, open: char, close: char) -> (&'a str, &'a str) {
+fn between(text: &str, open: char, close: char) -> (&str, &str) {
     let start = text.find(open).expect("an opening mark") + 1;
     let end = start + text[start..].find(close).expect("a closing mark");
     (&text[start..end], &text[end + 1..])
