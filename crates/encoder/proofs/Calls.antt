@@ -10,32 +10,32 @@ use native.Mathlib.Omega.{arith}
 use lib.ListN.{length, take, drop}
 use lib.Seq.{take-at}
 use borrow.Author.Tests.{le-ltb}
-use Rattle.causes.specs.declared.Cause.{Cause}
-use Rattle.causes.specs.declared.Written.{Written}
-use Rattle.causes.specs.Outcome.{refuse}
-use Rattle.register.specs.declared.Settings.{Settings}
-use Rattle.register.specs.Machine.{Machine, machine}
-use Rattle.register.proofs.Steps.{step-below}
-use Rattle.slices.specs.declared.TestSlice.{TestSlice}
-use Rattle.slices.specs.Slices.{paired}
-use Rattle.slices.proofs.Formed.{slices-length}
-use Rattle.checks.specs.Lengths.{badSet}
-use Rattle.checks.specs.Order.{judged}
-use Rattle.checks.specs.Calls.{setFaults, listFaults}
-use Rattle.checks.specs.declared.Verdict.{Verdict}
-use Rattle.checks.proofs.Lengths.{set-within, list-seeds}
-use Rattle.checks.proofs.Order.{well-formed}
-use Rattle.checks.proofs.Stopped.{StoppedFormed, set-formed}
-use Rattle.cutting.proofs.Parts.{covering-length, cuts-count}
-use Rattle.covering.specs.Rules.{Rules, rules}
-use Rattle.covering.specs.Windows.{CoveredBy, ok}
-use Rattle.covering.proofs.Windows.{rules-steady, set-bounds}
+use Rattle.refusal_causes.specs.declared.Cause.{Cause}
+use Rattle.refusal_causes.specs.declared.Written.{Written}
+use Rattle.refusal_causes.specs.Outcome.{refuse}
+use Rattle.machine_register.specs.declared.Settings.{Settings}
+use Rattle.machine_register.specs.Machine.{Machine, machine}
+use Rattle.machine_register.proofs.Steps.{step-below}
+use Rattle.machine_slices.specs.declared.TestSlice.{TestSlice}
+use Rattle.machine_slices.specs.Slices.{paired}
+use Rattle.machine_slices.proofs.Formed.{slices-length}
+use Rattle.refusal_checks.specs.Lengths.{badSet}
+use Rattle.refusal_checks.specs.Order.{judged}
+use Rattle.refusal_checks.specs.Calls.{setFaults, listFaults}
+use Rattle.refusal_checks.specs.declared.Verdict.{Verdict}
+use Rattle.refusal_checks.proofs.Lengths.{set-within, list-seeds}
+use Rattle.refusal_checks.proofs.Order.{well-formed}
+use Rattle.refusal_checks.proofs.Stopped.{StoppedFormed, set-formed}
+use Rattle.theory_cutting.proofs.Parts.{covering-length, cuts-count}
+use Rattle.theory_covering.specs.Rules.{Rules, rules}
+use Rattle.theory_covering.specs.Windows.{CoveredBy, ok}
+use Rattle.theory_covering.proofs.Windows.{rules-steady, set-bounds}
 use Rattle.expander.specs.Expanding.{expanding, expandList}
 use Rattle.encoder.specs.Encoding.{encoding, encodeSet}
 use Rattle.encoder.specs.Meaning.{Delivers, Shortest, Listed, Meaning, SetMeaning}
 use Rattle.encoder.proofs.Seeds.{covering-cuts}
 use Rattle.encoder.proofs.Meaning.{encoding-means, list-delivers}
-use Rattle.checks.specs.declared.Verdict.the-variants as verdict
+use Rattle.refusal_checks.specs.declared.Verdict.the-variants as verdict
 
 module _ (g : Settings) (masks : List ℕ) (stop : TestSlice) (specified bits : List ℕ) where
   abbrev M : Machine

@@ -9,19 +9,19 @@ use mathlib.Core.Option.{none, some}
 use mathlib.Core.List.{List}
 use Prim.Native.Nat.{ℕ}
 use lib.ListN.{length}
-use Rattle.causes.specs.declared.Cause.{Cause}
-use Rattle.register.specs.declared.Settings.{Settings}
-use Rattle.register.specs.Machine.{machine}
-use Rattle.slices.specs.declared.TestSlice.{TestSlice}
-use Rattle.slices.specs.Slices.{paired}
-use Rattle.checks.specs.Order.{judged}
-use Rattle.checks.specs.Calls.{setFaults, cubesFaults}
-use Rattle.checks.specs.declared.Verdict.{Verdict}
+use Rattle.refusal_causes.specs.declared.Cause.{Cause}
+use Rattle.machine_register.specs.declared.Settings.{Settings}
+use Rattle.machine_register.specs.Machine.{machine}
+use Rattle.machine_slices.specs.declared.TestSlice.{TestSlice}
+use Rattle.machine_slices.specs.Slices.{paired}
+use Rattle.refusal_checks.specs.Order.{judged}
+use Rattle.refusal_checks.specs.Calls.{setFaults, cubesFaults}
+use Rattle.refusal_checks.specs.declared.Verdict.{Verdict}
 use Rattle.stop.specs.Steps.{stopFor}
 use Rattle.stop.specs.Meaning.{StopMeaning}
 use Rattle.stop.proofs.Meaning.{stop-means, six-means}
 use Rattle.stop.proofs.Calls.{some-slice}
-use Rattle.covering.specs.Rules.{rules}
+use Rattle.theory_covering.specs.Rules.{rules}
 use Rattle.encoder.specs.Encoding.{encoding, encodeSet, withStop, cubesEncoding, encodeCubes}
 use Rattle.encoder.specs.Meaning.{StoppedMeaning, CubesMeaning}
 use Rattle.encoder.specs.Code.{CubesFormed}
@@ -29,8 +29,8 @@ use Rattle.encoder.specs.declared.Encoded.{Encoded}
 use Rattle.encoder.specs.declared.Encoded.the-variants.{Refused}
 use Rattle.encoder.proofs.Formed.{cubes-formed, cubes-stop, cubes-set}
 use Rattle.encoder.proofs.Calls.{set-well, set-means}
-use Rattle.causes.specs.declared.Cause.the-variants as cause
-use Rattle.checks.specs.declared.Verdict.the-variants as verdict
+use Rattle.refusal_causes.specs.declared.Cause.the-variants as cause
+use Rattle.refusal_checks.specs.declared.Verdict.the-variants as verdict
 
 module _ (g : Settings) (masks ps bs : List ℕ) where
   abbrev set : List TestSlice

@@ -7,16 +7,16 @@ use mathlib.Core.Bool.{false}
 use mathlib.Core.List.{List}
 use Prim.Native.Nat.{ℕ}
 use lib.ListN.{length}
-use Rattle.register.specs.declared.Settings.{Settings}
-use Rattle.register.proofs.Causes.{chains-counted}
-use Rattle.slices.specs.declared.TestSlice.{TestSlice}
-use Rattle.slices.specs.Slices.{badStop}
-use Rattle.checks.specs.Order.{judged}
-use Rattle.checks.specs.Calls.{stoppedFaults, setFaults, cubesFaults, stopFaults}
-use Rattle.checks.proofs.Order.{well-formed, formed-well}
-use Rattle.checks.proofs.Lengths.{cubes-lengths}
+use Rattle.machine_register.specs.declared.Settings.{Settings}
+use Rattle.machine_register.proofs.Causes.{chains-counted}
+use Rattle.machine_slices.specs.declared.TestSlice.{TestSlice}
+use Rattle.machine_slices.specs.Slices.{badStop}
+use Rattle.refusal_checks.specs.Order.{judged}
+use Rattle.refusal_checks.specs.Calls.{stoppedFaults, setFaults, cubesFaults, stopFaults}
+use Rattle.refusal_checks.proofs.Order.{well-formed, formed-well}
+use Rattle.refusal_checks.proofs.Lengths.{cubes-lengths}
 use Rattle.encoder.specs.Code.{CubesFormed}
-use Rattle.checks.specs.declared.Verdict.the-variants as verdict
+use Rattle.refusal_checks.specs.declared.Verdict.the-variants as verdict
 
 module _ (g : Settings) (masks ps bs : List ℕ) where
   pub cubes-formed : (depth : ℕ) → judged (cubesFaults g masks depth ps bs) ≡ verdict.WellFormed → CubesFormed g masks ps bs

@@ -11,14 +11,14 @@ use native.Mathlib.Numerals.{add-one}
 use native.Mathlib.Omega.{arith}
 use lib.ListN.{length, drop, set as put, length-set}
 use lib.Seq.{sets, sets-eq}
-use Rattle.register.specs.declared.Settings.{Settings}
-use Rattle.register.specs.Machine.{Machine, machine}
-use Rattle.slices.specs.declared.TestSlice.{TestSlice}
-use Rattle.cutting.specs.Greedy.{reach, hop, ends}
-use Rattle.cutting.proofs.Hops.{ends-more, ends-stop, hop-stays}
-use Rattle.covering.specs.Rules.{Rules, rules}
-use Rattle.covering.specs.Windows.{seedAt, ok}
-use Rattle.covering.proofs.Windows.{set-bounds}
+use Rattle.machine_register.specs.declared.Settings.{Settings}
+use Rattle.machine_register.specs.Machine.{Machine, machine}
+use Rattle.machine_slices.specs.declared.TestSlice.{TestSlice}
+use Rattle.theory_cutting.specs.Greedy.{reach, hop, ends}
+use Rattle.theory_cutting.proofs.Hops.{ends-more, ends-stop, hop-stays}
+use Rattle.theory_covering.specs.Rules.{Rules, rules}
+use Rattle.theory_covering.specs.Windows.{seedAt, ok}
+use Rattle.theory_covering.proofs.Windows.{set-bounds}
 use Rattle.encoder.specs.Encoding.{seedsOf}
 use Rattle.encoder.specs.Code.{gathered, gatheredSeeds}
 use Rattle.encoder.specs.declared.Gathered.{Gathered}

@@ -11,25 +11,25 @@ use mathlib.Core.List.{List}
 use Prim.Native.Nat.{ℕ, _<_}
 use native.Mathlib.Omega.{arith}
 use lib.ListN.{length}
-use Rattle.causes.specs.Outcome.{refuse, fill}
-use Rattle.causes.proofs.Outcome.{Full, Short, fill-cases}
-use Rattle.register.specs.Machine.{Machine}
-use Rattle.slices.specs.declared.TestSlice.{TestSlice}
-use Rattle.cutting.specs.Cutting.{Covering}
-use Rattle.cutting.specs.Greedy.{Plan, done, stuck, greedy, ends}
-use Rattle.cutting.specs.Meaning.{Fewest, StuckAt, Means}
-use Rattle.cutting.proofs.Theorem.{greedy-means}
-use Rattle.cutting.proofs.Parts.{covering-length, covering-cutting}
-use Rattle.covering.specs.Rules.{Rules}
-use Rattle.covering.specs.Windows.{CoveredBy, ok, Steady}
-use Rattle.covering.proofs.Windows.{set-windows}
+use Rattle.refusal_causes.specs.Outcome.{refuse, fill}
+use Rattle.refusal_causes.proofs.Outcome.{Full, Short, fill-cases}
+use Rattle.machine_register.specs.Machine.{Machine}
+use Rattle.machine_slices.specs.declared.TestSlice.{TestSlice}
+use Rattle.theory_cutting.specs.Cutting.{Covering}
+use Rattle.theory_cutting.specs.Greedy.{Plan, done, stuck, greedy, ends}
+use Rattle.theory_cutting.specs.Meaning.{Fewest, StuckAt, Means}
+use Rattle.theory_cutting.proofs.Theorem.{greedy-means}
+use Rattle.theory_cutting.proofs.Parts.{covering-length, covering-cutting}
+use Rattle.theory_covering.specs.Rules.{Rules}
+use Rattle.theory_covering.specs.Windows.{CoveredBy, ok, Steady}
+use Rattle.theory_covering.proofs.Windows.{set-windows}
 use Rattle.expander.specs.Expanding.{expanding}
 use Rattle.expander.proofs.Agreeing.{agree-length, agree-at}
 use Rattle.expander.proofs.Walks.{expand-covering}
 use Rattle.encoder.specs.Encoding.{seedsOf, planned, encoding}
 use Rattle.encoder.specs.Meaning.{Delivers, Shortest, Uncut, Meaning}
 use Rattle.encoder.proofs.Seeds.{seeds-cover, seeds-length, cuts-windows, windows-cuts, covering-cuts}
-use Rattle.causes.specs.declared.Cause.the-variants as cause
+use Rattle.refusal_causes.specs.declared.Cause.the-variants as cause
 
 module _ (M : Machine) (R : Rules) (set : List TestSlice) where
   abbrev n : ℕ

@@ -15,16 +15,16 @@ use lib.Dec.{ltb, eqb}
 use lib.ListN.{length, take, drop, length-take, length-drop}
 use lib.Seq.{take-take}
 use borrow.Author.Tests.{lt-ltb, le-ltb, ltb-true, ne-eqb}
-use Rattle.bounded.specs.Bounded.{lastBelow}
-use Rattle.bounded.proofs.Tests.{clash, fails, both, and-yes, lt-or-le}
-use Rattle.bounded.proofs.Search.{LastIs, last-is, last-of, last-none}
-use Rattle.register.specs.Machine.{Machine}
-use Rattle.slices.specs.declared.TestSlice.{TestSlice}
-use Rattle.cutting.specs.Greedy.{reach}
-use Rattle.covering.specs.Rules.{Rules}
-use Rattle.covering.specs.Covering.{seedOf}
-use Rattle.covering.specs.Windows.{part, far, placed, closes, seedAt, found, ok}
-use Rattle.covering.proofs.Places.{far-le, placed-parts, parts-placed}
+use Rattle.words_bounded.specs.Bounded.{lastBelow}
+use Rattle.words_bounded.proofs.Tests.{clash, fails, both, and-yes, lt-or-le}
+use Rattle.words_bounded.proofs.Search.{LastIs, last-is, last-of, last-none}
+use Rattle.machine_register.specs.Machine.{Machine}
+use Rattle.machine_slices.specs.declared.TestSlice.{TestSlice}
+use Rattle.theory_cutting.specs.Greedy.{reach}
+use Rattle.theory_covering.specs.Rules.{Rules}
+use Rattle.theory_covering.specs.Covering.{seedOf}
+use Rattle.theory_covering.specs.Windows.{part, far, placed, closes, seedAt, found, ok}
+use Rattle.theory_covering.proofs.Places.{far-le, placed-parts, parts-placed}
 use Rattle.window.specs.Longest.{closesAt, seedFor, longest, reachOf}
 use Rattle.window.specs.declared.Window.{Window}
 

@@ -10,16 +10,16 @@ use mathlib.Core.Option.{Option·getD}
 use mathlib.Core.List.{List, [], _∷_}
 use Prim.Native.Nat.{ℕ, suc}
 use lib.ListN.{length}
-use Rattle.bounded.proofs.Tests.{both}
-use Rattle.register.specs.Machine.{Machine}
-use Rattle.slices.specs.declared.TestSlice.{TestSlice}
-use Rattle.cutting.specs.Cutting.{Cutting, no-window, window, Covering, no-state, state}
-use Rattle.cutting.specs.Meaning.{Cuts}
-use Rattle.cutting.proofs.Parts.{cutting-map, covering-cutting}
-use Rattle.covering.specs.Rules.{Rules}
-use Rattle.covering.specs.Windows.{part, placed, closes, coversPart, CoveredBy, Window, seedAt, found, ok}
-use Rattle.covering.proofs.Tail.{found-covered}
-use Rattle.covering.proofs.Windows.{ok-window, window-ok}
+use Rattle.words_bounded.proofs.Tests.{both}
+use Rattle.machine_register.specs.Machine.{Machine}
+use Rattle.machine_slices.specs.declared.TestSlice.{TestSlice}
+use Rattle.theory_cutting.specs.Cutting.{Cutting, no-window, window, Covering, no-state, state}
+use Rattle.theory_cutting.specs.Meaning.{Cuts}
+use Rattle.theory_cutting.proofs.Parts.{cutting-map, covering-cutting}
+use Rattle.theory_covering.specs.Rules.{Rules}
+use Rattle.theory_covering.specs.Windows.{part, placed, closes, coversPart, CoveredBy, Window, seedAt, found, ok}
+use Rattle.theory_covering.proofs.Tail.{found-covered}
+use Rattle.theory_covering.proofs.Windows.{ok-window, window-ok}
 use Rattle.encoder.specs.Encoding.{seedsOf}
 
 module _ (M : Machine) (R : Rules) (set : List TestSlice) where

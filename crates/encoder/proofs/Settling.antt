@@ -10,22 +10,22 @@ use native.Mathlib.Omega.{arith}
 use lib.ListN.{length, take, drop, length-append}
 use lib.Seq.{length-take-le, take-at}
 use borrow.Author.Tests.{lt-ltb, le-ltb, eq-eqb, ne-eqb}
-use Rattle.bounded.proofs.Tests.{eq-or-not}
-use Rattle.causes.specs.declared.Written.the-variants.{Count}
-use Rattle.causes.specs.Outcome.{refuse, fill}
-use Rattle.causes.proofs.Outcome.{fill-whole, fill-short}
-use Rattle.register.specs.declared.Settings.{Settings}
-use Rattle.register.specs.Machine.{Machine, machine}
-use Rattle.slices.specs.declared.TestSlice.{TestSlice}
-use Rattle.cutting.specs.Greedy.{hop, ends, greedy}
-use Rattle.cutting.proofs.Hops.{hop-in}
-use Rattle.covering.specs.Rules.{Rules, rules}
-use Rattle.covering.specs.Windows.{ok}
-use Rattle.covering.proofs.Windows.{set-bounds}
+use Rattle.words_bounded.proofs.Tests.{eq-or-not}
+use Rattle.refusal_causes.specs.declared.Written.the-variants.{Count}
+use Rattle.refusal_causes.specs.Outcome.{refuse, fill}
+use Rattle.refusal_causes.proofs.Outcome.{fill-whole, fill-short}
+use Rattle.machine_register.specs.declared.Settings.{Settings}
+use Rattle.machine_register.specs.Machine.{Machine, machine}
+use Rattle.machine_slices.specs.declared.TestSlice.{TestSlice}
+use Rattle.theory_cutting.specs.Greedy.{hop, ends, greedy}
+use Rattle.theory_cutting.proofs.Hops.{hop-in}
+use Rattle.theory_covering.specs.Rules.{Rules, rules}
+use Rattle.theory_covering.specs.Windows.{ok}
+use Rattle.theory_covering.proofs.Windows.{set-bounds}
 use Rattle.encoder.specs.Encoding.{seedsOf, planned, encoding}
 use Rattle.encoder.specs.Code.{gathered, gatheredSeeds, settled}
 use Rattle.encoder.specs.declared.Gathered.{Gathered}
-use Rattle.causes.specs.declared.Cause.the-variants as cause
+use Rattle.refusal_causes.specs.declared.Cause.the-variants as cause
 
 module _ (n : ℕ) (r : Gathered) (seeds out : List ℕ) where
   pub settled-stuck : r .place < n → settled n r seeds out ≡ refuse (cause.NoCutting (r .place)) out

@@ -9,15 +9,15 @@ use mathlib.Core.List.{List}
 use Prim.Native.Nat.{ℕ, _-_, _≤_, min}
 use native.Mathlib.Omega.{arith}
 use lib.ListN.{length, take, drop, length-take, length-drop}
-use Rattle.register.specs.declared.Settings.{Settings}
-use Rattle.register.specs.Machine.{Machine, machine}
-use Rattle.slices.specs.declared.TestSlice.{TestSlice}
-use Rattle.slices.specs.Slices.{paired, badSlices}
-use Rattle.slices.proofs.Causes.{slices-equal}
-use Rattle.slices.proofs.Formed.{paired-take, paired-drop, slices-length, slices-take, slices-drop}
-use Rattle.covering.specs.Rules.{Rules, rules}
-use Rattle.covering.specs.Windows.{part, far, closes}
-use Rattle.covering.proofs.Places.{far-rules}
+use Rattle.machine_register.specs.declared.Settings.{Settings}
+use Rattle.machine_register.specs.Machine.{Machine, machine}
+use Rattle.machine_slices.specs.declared.TestSlice.{TestSlice}
+use Rattle.machine_slices.specs.Slices.{paired, badSlices}
+use Rattle.machine_slices.proofs.Causes.{slices-equal}
+use Rattle.machine_slices.proofs.Formed.{paired-take, paired-drop, slices-length, slices-take, slices-drop}
+use Rattle.theory_covering.specs.Rules.{Rules, rules}
+use Rattle.theory_covering.specs.Windows.{part, far, closes}
+use Rattle.theory_covering.proofs.Places.{far-rules}
 use Rattle.window.specs.Longest.{reachOf}
 use Rattle.window.specs.declared.Window.{Window}
 use Rattle.encoder.proofs.Reaching.{Reaches, reaches}

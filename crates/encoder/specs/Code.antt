@@ -9,20 +9,20 @@ use mathlib.Core.List.{List}
 use Prim.Native.Nat.{ℕ}
 use lib.Dec.{ltb}
 use lib.ListN.{length, take}
-use Rattle.causes.specs.Outcome.{Outcome, refuse, fill}
-use Rattle.register.specs.declared.Settings.{Settings}
-use Rattle.register.specs.Register.{badRegister}
-use Rattle.register.specs.Chains.{badChains}
-use Rattle.register.specs.Machine.{machine}
-use Rattle.slices.specs.declared.TestSlice.{TestSlice}
-use Rattle.slices.specs.Slices.{badSlices}
-use Rattle.checks.specs.Lengths.{badSet}
-use Rattle.cutting.specs.Greedy.{hop, ends}
-use Rattle.covering.specs.Rules.{rules}
-use Rattle.covering.specs.Windows.{ok}
+use Rattle.refusal_causes.specs.Outcome.{Outcome, refuse, fill}
+use Rattle.machine_register.specs.declared.Settings.{Settings}
+use Rattle.machine_register.specs.Register.{badRegister}
+use Rattle.machine_register.specs.Chains.{badChains}
+use Rattle.machine_register.specs.Machine.{machine}
+use Rattle.machine_slices.specs.declared.TestSlice.{TestSlice}
+use Rattle.machine_slices.specs.Slices.{badSlices}
+use Rattle.refusal_checks.specs.Lengths.{badSet}
+use Rattle.theory_cutting.specs.Greedy.{hop, ends}
+use Rattle.theory_covering.specs.Rules.{rules}
+use Rattle.theory_covering.specs.Windows.{ok}
 use Rattle.encoder.specs.Encoding.{seedsOf}
 use Rattle.encoder.specs.declared.Gathered.{Gathered}
-use Rattle.causes.specs.declared.Cause.the-variants as cause
+use Rattle.refusal_causes.specs.declared.Cause.the-variants as cause
 
 unfoldable pub gatheredSeeds : Settings → List ℕ → TestSlice → List TestSlice → List ℕ
 gatheredSeeds g masks stop set = seedsOf (machine g masks) (rules g stop) set 0 (ends (ok (machine g masks) (rules g stop) set) (length set) (length set) 0)

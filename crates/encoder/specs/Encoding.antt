@@ -10,23 +10,23 @@ use mathlib.Core.Option.{none, some, Option·getD}
 use mathlib.Core.List.{List, [], _∷_}
 use Prim.Native.Nat.{ℕ}
 use lib.ListN.{length}
-use Rattle.causes.specs.declared.Written.{Written}
-use Rattle.causes.specs.Outcome.{Outcome, refuse, fill}
-use Rattle.register.specs.declared.Settings.{Settings}
-use Rattle.register.specs.Machine.{Machine, machine}
-use Rattle.slices.specs.declared.TestSlice.{TestSlice}
-use Rattle.slices.specs.Slices.{paired}
-use Rattle.checks.specs.Order.{judged}
-use Rattle.checks.specs.Calls.{setFaults, cubesFaults}
-use Rattle.cutting.specs.Greedy.{Plan, done, stuck, greedy}
+use Rattle.refusal_causes.specs.declared.Written.{Written}
+use Rattle.refusal_causes.specs.Outcome.{Outcome, refuse, fill}
+use Rattle.machine_register.specs.declared.Settings.{Settings}
+use Rattle.machine_register.specs.Machine.{Machine, machine}
+use Rattle.machine_slices.specs.declared.TestSlice.{TestSlice}
+use Rattle.machine_slices.specs.Slices.{paired}
+use Rattle.refusal_checks.specs.Order.{judged}
+use Rattle.refusal_checks.specs.Calls.{setFaults, cubesFaults}
+use Rattle.theory_cutting.specs.Greedy.{Plan, done, stuck, greedy}
 use Rattle.stop.specs.Steps.{stopFor}
-use Rattle.covering.specs.Rules.{Rules, rules}
-use Rattle.covering.specs.Windows.{seedAt, ok}
+use Rattle.theory_covering.specs.Rules.{Rules, rules}
+use Rattle.theory_covering.specs.Windows.{seedAt, ok}
 use Rattle.encoder.specs.declared.Encoded.{Encoded}
 use Rattle.encoder.specs.declared.Encoded.the-variants.{Seeds, Refused}
-use Rattle.causes.specs.declared.Cause.the-variants as cause
-use Rattle.causes.specs.declared.Written.the-variants as written
-use Rattle.checks.specs.declared.Verdict.the-variants as verdict
+use Rattle.refusal_causes.specs.declared.Cause.the-variants as cause
+use Rattle.refusal_causes.specs.declared.Written.the-variants as written
+use Rattle.refusal_checks.specs.declared.Verdict.the-variants as verdict
 
 unfoldable pub seedsOf : Machine → Rules → List TestSlice → ℕ → List ℕ → List ℕ
 seedsOf M R set a [] = []

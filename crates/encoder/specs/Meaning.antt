@@ -13,24 +13,24 @@ use mathlib.Core.List.{List, _++_}
 use mathlib.Core.Option.{none, some}
 use Prim.Native.Nat.{ℕ, _≤_, _<_}
 use lib.ListN.{length, getD, take, drop}
-use Rattle.causes.specs.declared.Cause.{Cause}
-use Rattle.causes.specs.declared.Written.the-variants.{Count, Refused}
-use Rattle.causes.specs.Outcome.{Outcome, refuse, fill}
-use Rattle.slices.specs.declared.TestSlice.{TestSlice}
-use Rattle.cutting.specs.Cutting.{Cutting, Covering, delivered}
-use Rattle.covering.specs.Rules.{Rules, rules}
-use Rattle.covering.specs.Windows.{CoveredBy, Window}
-use Rattle.register.specs.declared.Settings.{Settings}
-use Rattle.register.specs.Machine.{Machine, machine}
-use Rattle.slices.specs.Slices.{agrees, paired}
-use Rattle.checks.specs.Order.{judged}
-use Rattle.checks.specs.Calls.{setFaults, cubesFaults}
+use Rattle.refusal_causes.specs.declared.Cause.{Cause}
+use Rattle.refusal_causes.specs.declared.Written.the-variants.{Count, Refused}
+use Rattle.refusal_causes.specs.Outcome.{Outcome, refuse, fill}
+use Rattle.machine_slices.specs.declared.TestSlice.{TestSlice}
+use Rattle.theory_cutting.specs.Cutting.{Cutting, Covering, delivered}
+use Rattle.theory_covering.specs.Rules.{Rules, rules}
+use Rattle.theory_covering.specs.Windows.{CoveredBy, Window}
+use Rattle.machine_register.specs.declared.Settings.{Settings}
+use Rattle.machine_register.specs.Machine.{Machine, machine}
+use Rattle.machine_slices.specs.Slices.{agrees, paired}
+use Rattle.refusal_checks.specs.Order.{judged}
+use Rattle.refusal_checks.specs.Calls.{setFaults, cubesFaults}
 use Rattle.stop.specs.Steps.{stopFor}
 use Rattle.stop.specs.Meaning.{StopMeaning, SixMeaning}
 use Rattle.expander.specs.Expanding.{expandList}
 use Rattle.encoder.specs.Encoding.{CubesOutcome, withStop}
-use Rattle.causes.specs.declared.Cause.the-variants as cause
-use Rattle.checks.specs.declared.Verdict.the-variants as verdict
+use Rattle.refusal_causes.specs.declared.Cause.the-variants as cause
+use Rattle.refusal_checks.specs.declared.Verdict.the-variants as verdict
 use Rattle.encoder.specs.declared.Encoded.the-variants as encoded
 
 pub record Delivers (set : List TestSlice) (expanded : List ℕ → Outcome) : Type 0 where

@@ -1,24 +1,24 @@
 // The encoding of a set (document 01, "Covering and cutting"): from its first slice on, the longest window that some state covers, and its seed.
-use causes::Cause;
-use causes::Written;
-use checks::Verdict;
-use register::Settings;
+use machine_register::Settings;
+use machine_slices::TestSlice;
+use refusal_causes::Cause;
+use refusal_causes::Written;
+use refusal_checks::Verdict;
 use search::Pattern;
-use slices::TestSlice;
 use stop::Formed;
 ghost use mathlib.Core.Bool.{false};
 ghost use mathlib.Core.List.{_++_};
 ghost use mathlib.Core.Path.{_≡_};
 ghost use Prim.Native.Nat.{suc, min, _≤_};
 ghost use lib.ListN.{drop, length, take};
-ghost use Rattle.register.specs.Machine.{base, machine};
-ghost use Rattle.slices.specs.declared.TestSlice.{TestSlice};
-ghost use Rattle.slices.specs.Slices.{badSlices, paired};
-ghost use Rattle.checks.specs.Order.{judged};
-ghost use Rattle.checks.specs.Calls.{setFaults};
-ghost use Rattle.checks.specs.declared.Verdict.the-variants as verdict;
-ghost use Rattle.covering.specs.Rules.{rules};
-ghost use Rattle.covering.specs.Windows.{far as farOf};
+ghost use Rattle.machine_register.specs.Machine.{base, machine};
+ghost use Rattle.machine_slices.specs.declared.TestSlice.{TestSlice};
+ghost use Rattle.machine_slices.specs.Slices.{badSlices, paired};
+ghost use Rattle.refusal_checks.specs.Order.{judged};
+ghost use Rattle.refusal_checks.specs.Calls.{setFaults};
+ghost use Rattle.refusal_checks.specs.declared.Verdict.the-variants as verdict;
+ghost use Rattle.theory_covering.specs.Rules.{rules};
+ghost use Rattle.theory_covering.specs.Windows.{far as farOf};
 ghost use Rattle.window.specs.Ready.{Ready};
 ghost use Rattle.encoder.specs.Encoding.{cubesEncoding, encodeCubes, encodeSet, encoding, stopped};
 ghost use Rattle.encoder.specs.Meaning.{SetMeaning, CubesMeaning};
@@ -41,7 +41,7 @@ fn far(settings: Settings, slices: usize, start: usize) -> usize
     requires { ⌜ (settings .limit ≤ 256) × (start ≤ 2048) ⌝ }
     ensures { λ r. ⌜ ((stop : TestSlice) → r ≡ farOf (rules settings stop) slices start) ⌝ }
 {
-    bounded::lesser(slices, start + settings.limit)
+    words_bounded::lesser(slices, start + settings.limit)
 }
 
 // The seeds of a set's windows, each the longest from where the one before ends, until the end or a start from which no window leads on.
@@ -132,10 +132,10 @@ fn encode(
 {
     let mut table = [0u64; window::MOST_ENTRIES];
     let mut clauses = [0u64; window::MOST_ENTRIES];
-    let mut seeds = [0u64; checks::MOST_SLICES];
+    let mut seeds = [0u64; refusal_checks::MOST_SLICES];
     let taps = settings.taps;
-    let rows = bounded::lesser(settings.limit, specified.len()) + 1;
-    table::fill(taps, masks, rows, &mut table);
+    let rows = words_bounded::lesser(settings.limit, specified.len()) + 1;
+    search_table::fill(taps, masks, rows, &mut table);
     let pattern = window::fill_clauses(taps, masks, stop, rows, &mut clauses);
     let gathered = gather(
         settings,
@@ -165,8 +165,8 @@ pub fn encode_set(
     ensures buffer { λ _. ⌜ now (out .exit) ≡ encodeSet (base cells taps) (now (masks .entry)) stop (now (specified .entry)) (now (bits .entry)) (now (out .entry)) .buffer ⌝ }
     ensures meaning { λ r. ⌜ SetMeaning (base cells taps) (now (masks .entry)) stop (now (specified .entry)) (now (bits .entry)) (now (out .entry)) (record { answer = r; buffer = now (out .exit) }) ⌝ }
 {
-    let settings = register::base(cells, taps);
-    let verdict = checks::check_set(settings, masks, stop, specified, bits);
+    let settings = machine_register::base(cells, taps);
+    let verdict = refusal_checks::check_set(settings, masks, stop, specified, bits);
     match verdict {
         Verdict::Refused(cause) => Written::Refused(cause),
         Verdict::WellFormed => encode(settings, masks, stop, specified, bits, out),
@@ -216,8 +216,8 @@ pub fn encode_cubes(
     ensures buffer { λ _. ⌜ now (out .exit) ≡ encodeCubes (base cells taps) (now (masks .entry)) depth (now (specified .entry)) (now (bits .entry)) (now (out .entry)) .buffer ⌝ }
     ensures meaning { λ r. ⌜ CubesMeaning (base cells taps) (now (masks .entry)) depth (now (specified .entry)) (now (bits .entry)) (now (out .entry)) (record { answer = r; buffer = now (out .exit) }) ⌝ }
 {
-    let settings = register::base(cells, taps);
-    let verdict = checks::check_cubes(settings, masks, depth, specified, bits);
+    let settings = machine_register::base(cells, taps);
+    let verdict = refusal_checks::check_cubes(settings, masks, depth, specified, bits);
     match verdict {
         Verdict::Refused(cause) => Encoded::Refused(cause),
         Verdict::WellFormed => encode_formed(settings, masks, specified, bits, out),

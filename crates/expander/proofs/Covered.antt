@@ -11,12 +11,12 @@ use Prim.Native.Nat.{ℕ, zero, suc, _<_}
 use native.Mathlib.Nat.{not-suc-le-zero, le-of-suc-le-suc}
 use lib.ListN.{length}
 use borrow.Author.Tests.{not-true}
-use Rattle.bounded.proofs.Tests.{both}
-use Rattle.register.specs.Machine.{Machine}
-use Rattle.slices.specs.declared.TestSlice.{TestSlice}
-use Rattle.slices.specs.Slices.{agrees, shows}
-use Rattle.covering.specs.Covering.{fits, quiet, covers}
-use Rattle.covering.proofs.Tail.{covers-tail}
+use Rattle.words_bounded.proofs.Tests.{both}
+use Rattle.machine_register.specs.Machine.{Machine}
+use Rattle.machine_slices.specs.declared.TestSlice.{TestSlice}
+use Rattle.machine_slices.specs.Slices.{agrees, shows}
+use Rattle.theory_covering.specs.Covering.{fits, quiet, covers}
+use Rattle.theory_covering.proofs.Tail.{covers-tail}
 use Rattle.expander.specs.Run.{slicesOf, firstStop, gives, ending}
 use Rattle.expander.proofs.Agreeing.{Agree, agree-none, agree-more}
 

@@ -13,13 +13,13 @@ use Prim.Native.Nat.{ℕ, zero, suc, _+_, _-_, _≤_, _<_}
 use native.Mathlib.Omega.{arith}
 use lib.ListN.{length, getD, drop, drop-of-length-le, length-append}
 use lib.Seq.{sets, length-sets}
-use Rattle.bounded.proofs.Front.{sets-append}
-use Rattle.gf2.specs.Words.{beyond}
-use Rattle.register.specs.declared.Settings.{Settings}
-use Rattle.register.specs.Machine.{Machine, machine}
-use Rattle.slices.specs.declared.TestSlice.{TestSlice}
-use Rattle.slices.specs.Slices.{shows}
-use Rattle.covering.specs.Rules.{Rules, rules}
+use Rattle.words_bounded.proofs.Front.{sets-append}
+use Rattle.words_gf2.specs.Words.{beyond}
+use Rattle.machine_register.specs.declared.Settings.{Settings}
+use Rattle.machine_register.specs.Machine.{Machine, machine}
+use Rattle.machine_slices.specs.declared.TestSlice.{TestSlice}
+use Rattle.machine_slices.specs.Slices.{shows}
+use Rattle.theory_covering.specs.Rules.{Rules, rules}
 use Rattle.expander.specs.Run.{slicesOf, firstStop}
 use Rattle.expander.specs.Expanding.{Walk, ran, failed, after, walk}
 use Rattle.expander.specs.Code.{untilStop}

@@ -7,9 +7,9 @@ use mathlib.Core.Bool.{_&&_}
 use mathlib.Core.List.{List, _∷_}
 use Prim.Native.Nat.{ℕ, zero, suc, _+_, _-_}
 use lib.ListN.{length}
-use Rattle.causes.specs.declared.Cause.{Cause}
-use Rattle.register.specs.Machine.{Machine}
-use Rattle.covering.specs.Rules.{Rules}
+use Rattle.refusal_causes.specs.declared.Cause.{Cause}
+use Rattle.machine_register.specs.Machine.{Machine}
+use Rattle.theory_covering.specs.Rules.{Rules}
 use Rattle.expander.specs.Run.{slicesOf, gives, fails, delivers}
 use Rattle.expander.specs.Expanding.{failed, after, isLast, walk}
 

@@ -14,24 +14,24 @@ use lib.ListN.{length, drop}
 use lib.Dec.{eqb}
 use lib.Seq.{sets, sets-eq}
 use borrow.Author.Tests.{eq-eqb, ne-eqb}
-use Rattle.causes.specs.declared.Cause.{Cause}
-use Rattle.causes.specs.declared.Cause.the-variants.{NoSpace, Total}
-use Rattle.causes.specs.declared.Written.the-variants.{Count, Refused}
-use Rattle.causes.specs.Outcome.{refuse, fill}
-use Rattle.causes.proofs.Outcome.{fill-whole, fill-short}
-use Rattle.register.specs.declared.Settings.{Settings}
-use Rattle.register.specs.Machine.{Machine, machine}
-use Rattle.register.proofs.Causes.{cells-within, chains-within}
-use Rattle.slices.specs.declared.TestSlice.{TestSlice}
-use Rattle.checks.specs.Order.{judged}
-use Rattle.checks.specs.Calls.{listFaults}
-use Rattle.checks.specs.declared.Verdict.{Verdict}
-use Rattle.checks.proofs.Lengths.{list-within}
-use Rattle.checks.proofs.Order.{NoFault, formed-well}
-use Rattle.covering.specs.Rules.{Rules, rules}
+use Rattle.refusal_causes.specs.declared.Cause.{Cause}
+use Rattle.refusal_causes.specs.declared.Cause.the-variants.{NoSpace, Total}
+use Rattle.refusal_causes.specs.declared.Written.the-variants.{Count, Refused}
+use Rattle.refusal_causes.specs.Outcome.{refuse, fill}
+use Rattle.refusal_causes.proofs.Outcome.{fill-whole, fill-short}
+use Rattle.machine_register.specs.declared.Settings.{Settings}
+use Rattle.machine_register.specs.Machine.{Machine, machine}
+use Rattle.machine_register.proofs.Causes.{cells-within, chains-within}
+use Rattle.machine_slices.specs.declared.TestSlice.{TestSlice}
+use Rattle.refusal_checks.specs.Order.{judged}
+use Rattle.refusal_checks.specs.Calls.{listFaults}
+use Rattle.refusal_checks.specs.declared.Verdict.{Verdict}
+use Rattle.refusal_checks.proofs.Lengths.{list-within}
+use Rattle.refusal_checks.proofs.Order.{NoFault, formed-well}
+use Rattle.theory_covering.specs.Rules.{Rules, rules}
 use Rattle.expander.specs.Expanding.{Walk, ran, failed, walk, totalled, expanding, expandList}
 use Rattle.expander.specs.Code.{Ready, tally}
-use Rattle.checks.specs.declared.Verdict.the-variants as verdict
+use Rattle.refusal_checks.specs.declared.Verdict.the-variants as verdict
 
 module _ (M : Machine) (R : Rules) (n : ℕ) (seeds out : List ℕ) where
   abbrev walked : Walk

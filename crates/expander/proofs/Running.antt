@@ -11,13 +11,13 @@ use mathlib.Core.List.{List}
 use Prim.Native.Nat.{ℕ, suc, _+_, _-_, _≤_, _<_}
 use native.Mathlib.Omega.{arith}
 use lib.ListN.{take}
-use Rattle.register.specs.declared.Settings.{Settings}
-use Rattle.register.specs.Register.{stepOf}
-use Rattle.register.specs.Chains.{slice}
-use Rattle.register.specs.Machine.{Machine, machine}
-use Rattle.register.proofs.Machine.{machine-slice, machine-step}
-use Rattle.slices.specs.declared.TestSlice.{TestSlice}
-use Rattle.slices.specs.Slices.{shows}
+use Rattle.machine_register.specs.declared.Settings.{Settings}
+use Rattle.machine_register.specs.Register.{stepOf}
+use Rattle.machine_register.specs.Chains.{slice}
+use Rattle.machine_register.specs.Machine.{Machine, machine}
+use Rattle.machine_register.proofs.Machine.{machine-slice, machine-step}
+use Rattle.machine_slices.specs.declared.TestSlice.{TestSlice}
+use Rattle.machine_slices.specs.Slices.{shows}
 use Rattle.expander.specs.Run.{firstStop}
 use Rattle.expander.specs.Code.{Ready}
 

@@ -13,16 +13,16 @@ use native.Mathlib.Numerals.{add-one}
 use native.Mathlib.Omega.{arith}
 use lib.ListN.{length, getD, drop, drop-of-length-le, length-append}
 use lib.Seq.{drop-cons}
-use Rattle.causes.specs.declared.Cause.{Cause}
-use Rattle.causes.specs.declared.Cause.the-variants.{SeedBeyond, SeedAtStop, SeedEndless}
-use Rattle.causes.specs.declared.Written.{Written}
-use Rattle.causes.specs.declared.Written.the-variants.{Count, Refused}
-use Rattle.gf2.specs.Words.{beyond}
-use Rattle.register.specs.declared.Settings.{Settings}
-use Rattle.register.specs.Machine.{Machine, machine}
-use Rattle.register.proofs.Machine.{machine-states}
-use Rattle.slices.specs.declared.TestSlice.{TestSlice}
-use Rattle.covering.specs.Rules.{Rules, rules}
+use Rattle.refusal_causes.specs.declared.Cause.{Cause}
+use Rattle.refusal_causes.specs.declared.Cause.the-variants.{SeedBeyond, SeedAtStop, SeedEndless}
+use Rattle.refusal_causes.specs.declared.Written.{Written}
+use Rattle.refusal_causes.specs.declared.Written.the-variants.{Count, Refused}
+use Rattle.words_gf2.specs.Words.{beyond}
+use Rattle.machine_register.specs.declared.Settings.{Settings}
+use Rattle.machine_register.specs.Machine.{Machine, machine}
+use Rattle.machine_register.proofs.Machine.{machine-states}
+use Rattle.machine_slices.specs.declared.TestSlice.{TestSlice}
+use Rattle.theory_covering.specs.Rules.{Rules, rules}
 use Rattle.expander.specs.Run.{slicesOf, firstStop, fails, ending, delivers}
 use Rattle.expander.specs.Expanding.{Walk, ran, failed, after, walk}
 use Rattle.expander.specs.Code.{tally}

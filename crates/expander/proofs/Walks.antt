@@ -11,14 +11,14 @@ use native.Mathlib.Omega.{arith}
 use lib.ListN.{length, drop, length-take, length-drop, take-append-drop, drop-of-length-le}
 use lib.Seq.{drop-drop}
 use borrow.Author.Tests.{lt-ltb, eq-eqb}
-use Rattle.causes.specs.Outcome.{fill}
-use Rattle.register.specs.Machine.{Machine}
-use Rattle.slices.specs.declared.TestSlice.{TestSlice}
-use Rattle.cutting.specs.Cutting.{Covering, no-state, state}
-use Rattle.covering.specs.Covering.{covers}
-use Rattle.covering.specs.Rules.{Rules}
-use Rattle.covering.specs.Windows.{part, closes, coversPart, CoveredBy}
-use Rattle.covering.proofs.Places.{placed-parts, far-le}
+use Rattle.refusal_causes.specs.Outcome.{fill}
+use Rattle.machine_register.specs.Machine.{Machine}
+use Rattle.machine_slices.specs.declared.TestSlice.{TestSlice}
+use Rattle.theory_cutting.specs.Cutting.{Covering, no-state, state}
+use Rattle.theory_covering.specs.Covering.{covers}
+use Rattle.theory_covering.specs.Rules.{Rules}
+use Rattle.theory_covering.specs.Windows.{part, closes, coversPart, CoveredBy}
+use Rattle.theory_covering.proofs.Places.{placed-parts, far-le}
 use Rattle.expander.specs.Run.{slicesOf, firstStop, gives, delivers}
 use Rattle.expander.specs.Expanding.{ran, after, isLast, walk, totalled, expanding}
 use Rattle.expander.proofs.OneSeed.{walk-gives}

@@ -11,16 +11,16 @@ use mathlib.Core.List.{List, [], _∷_, _++_}
 use Prim.Native.Nat.{ℕ, suc, _+_, _-_}
 use lib.Dec.{eqb}
 use lib.ListN.{length}
-use Rattle.causes.specs.declared.Cause.{Cause}
-use Rattle.causes.specs.declared.Cause.the-variants.{Total}
-use Rattle.causes.specs.Outcome.{Outcome, refuse, fill}
-use Rattle.register.specs.declared.Settings.{Settings}
-use Rattle.register.specs.Machine.{Machine, machine}
-use Rattle.slices.specs.declared.TestSlice.{TestSlice}
-use Rattle.checks.specs.Order.{judged}
-use Rattle.checks.specs.Calls.{listFaults}
-use Rattle.checks.specs.declared.Verdict.the-variants as verdict
-use Rattle.covering.specs.Rules.{Rules, rules}
+use Rattle.refusal_causes.specs.declared.Cause.{Cause}
+use Rattle.refusal_causes.specs.declared.Cause.the-variants.{Total}
+use Rattle.refusal_causes.specs.Outcome.{Outcome, refuse, fill}
+use Rattle.machine_register.specs.declared.Settings.{Settings}
+use Rattle.machine_register.specs.Machine.{Machine, machine}
+use Rattle.machine_slices.specs.declared.TestSlice.{TestSlice}
+use Rattle.refusal_checks.specs.Order.{judged}
+use Rattle.refusal_checks.specs.Calls.{listFaults}
+use Rattle.refusal_checks.specs.declared.Verdict.the-variants as verdict
+use Rattle.theory_covering.specs.Rules.{Rules, rules}
 use Rattle.expander.specs.Run.{slicesOf, gives, fails, delivers}
 
 pub data Walk : Type 0 where

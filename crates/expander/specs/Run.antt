@@ -9,12 +9,12 @@ use mathlib.Core.Option.{Option, none, some, Option·map}
 use mathlib.Core.List.{List, [], _∷_}
 use Prim.Native.Nat.{ℕ, zero, suc, min}
 use lib.Dec.{ltb, leb}
-use Rattle.causes.specs.declared.Cause.{Cause}
-use Rattle.causes.specs.declared.Cause.the-variants.{SeedBeyond, SeedAtStop, SeedEndless}
-use Rattle.register.specs.Machine.{Machine}
-use Rattle.slices.specs.declared.TestSlice.{TestSlice}
-use Rattle.slices.specs.Slices.{shows}
-use Rattle.covering.specs.Rules.{Rules}
+use Rattle.refusal_causes.specs.declared.Cause.{Cause}
+use Rattle.refusal_causes.specs.declared.Cause.the-variants.{SeedBeyond, SeedAtStop, SeedEndless}
+use Rattle.machine_register.specs.Machine.{Machine}
+use Rattle.machine_slices.specs.declared.TestSlice.{TestSlice}
+use Rattle.machine_slices.specs.Slices.{shows}
+use Rattle.theory_covering.specs.Rules.{Rules}
 
 -- Slice 0 of a seed comes from the seed itself before any step, slice t after t steps.
 unfoldable pub slicesOf : Machine → ℕ → ℕ → List ℕ

@@ -1,17 +1,17 @@
 // The expanding of a seed list back to slices (document 01, "Register and chains" and causes 10, 11, 12, 14 and 9 of its refusal sheet).
-use causes::Cause;
-use causes::Written;
-use checks::Verdict;
-use register::Register;
-use register::Settings;
-use slices::TestSlice;
+use machine_register::Register;
+use machine_register::Settings;
+use machine_slices::TestSlice;
+use refusal_causes::Cause;
+use refusal_causes::Written;
+use refusal_checks::Verdict;
 ghost use mathlib.Core.Path.{_≡_};
 ghost use mathlib.Core.List.{List};
 ghost use Prim.Native.Nat.{ℕ, _+_, _-_, _≤_};
 ghost use lib.ListN.{length};
 ghost use lib.Seq.{sets};
-ghost use Rattle.register.specs.Machine.{base, machine};
-ghost use Rattle.covering.specs.Rules.{rules};
+ghost use Rattle.machine_register.specs.Machine.{base, machine};
+ghost use Rattle.theory_covering.specs.Rules.{rules};
 ghost use Rattle.expander.specs.Expanding.{ran, walk, expanding, expandList};
 ghost use Rattle.expander.specs.Code.{Ready, tally, untilStop};
 
@@ -32,12 +32,12 @@ fn total_of(settings: Settings, masks: &[u64], stop: TestSlice, seeds: &[u64]) -
             break 'seeds Written::Count(total);
         }
         let mut state = seeds[place];
-        if gf2::beyond(settings.cells, state) {
+        if words_gf2::beyond(settings.cells, state) {
             break 'seeds Written::Refused(Cause::SeedBeyond(place));
         }
         let mut t = 0;
         let length = loop {
-            if slices::shows(stop, register::slice(masks, state)) {
+            if machine_slices::shows(stop, machine_register::slice(masks, state)) {
                 break t;
             }
             if settings.limit <= t {
@@ -75,8 +75,8 @@ fn write_run(
     let mut state = seed;
     let mut i = at;
     while i < out.len() {
-        let slice = register::slice(masks, state);
-        if slices::shows(stop, slice) {
+        let slice = machine_register::slice(masks, state);
+        if machine_slices::shows(stop, slice) {
             break;
         }
         out[i] = slice;
@@ -142,8 +142,8 @@ pub fn expand_list(
     ensures answer { λ r. ⌜ r ≡ expandList (base cells taps) (now (masks .entry)) stop slices (now (seeds .entry)) (now (out .entry)) .answer ⌝ }
     ensures buffer { λ _. ⌜ now (out .exit) ≡ expandList (base cells taps) (now (masks .entry)) stop slices (now (seeds .entry)) (now (out .entry)) .buffer ⌝ }
 {
-    let settings = register::base(cells, taps);
-    let verdict = checks::check_list(settings, masks, stop, slices, seeds.len());
+    let settings = machine_register::base(cells, taps);
+    let verdict = refusal_checks::check_list(settings, masks, stop, slices, seeds.len());
     match verdict {
         Verdict::Refused(cause) => Written::Refused(cause),
         Verdict::WellFormed => expand_formed(settings, masks, stop, slices, seeds, out),

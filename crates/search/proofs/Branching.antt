@@ -19,15 +19,15 @@ use lib.Bits.{bitXor}
 use lib.ListN.{getD, length}
 use borrow.Author.Count.{below-more}
 use borrow.Author.Tests.{leb-true, leb-false}
-use Rattle.bounded.specs.Bounded.{leastBelow, NoneBelow}
-use Rattle.bounded.proofs.Search.{LeastIs, least-is, least-of, none-of}
-use Rattle.bounded.proofs.Tests.{clash, fails, both, and-yes, eq-or-not}
-use Rattle.gf2.specs.Words.{odd}
-use Rattle.gf2.proofs.Parity.{odd-lt, xor-odd}
-use Rattle.gf2.proofs.Xor.{xor-twice}
-use Rattle.space.specs.Space.{among, pivot, without, Rising}
-use Rattle.space.proofs.Members.{Among, among-is, is-among, among-lowest, lowest-among}
-use Rattle.space.proofs.Pivot.{no-pivot, kept-alike, alike-kept, pivot-moves, pivot-parity, without-same, without-shorter, rising-kept, rising-moved}
+use Rattle.words_bounded.specs.Bounded.{leastBelow, NoneBelow}
+use Rattle.words_bounded.proofs.Search.{LeastIs, least-is, least-of, none-of}
+use Rattle.words_bounded.proofs.Tests.{clash, fails, both, and-yes, eq-or-not}
+use Rattle.words_gf2.specs.Words.{odd}
+use Rattle.words_gf2.proofs.Parity.{odd-lt, xor-odd}
+use Rattle.words_gf2.proofs.Xor.{xor-twice}
+use Rattle.search_space.specs.Space.{among, pivot, without, Rising}
+use Rattle.search_space.proofs.Members.{Among, among-is, is-among, among-lowest, lowest-among}
+use Rattle.search_space.proofs.Pivot.{no-pivot, kept-alike, alike-kept, pivot-moves, pivot-parity, without-same, without-shorter, rising-kept, rising-moved}
 use Rattle.search.specs.Clauses.{row, reads, shown, clear}
 use Rattle.search.specs.Code.{firstShown, lower, reached}
 use Rattle.search.specs.Search.{lowestClear}

@@ -18,9 +18,9 @@ use mathlib.Core.Option.{Option, none, some}
 use Prim.Native.Nat.{ℕ, _^_, _≤_, _<_}
 use native.Mathlib.Omega.{arith}
 use borrow.Author.Tests.{le-leb, lt-leb}
-use Rattle.bounded.specs.Bounded.{leastBelow}
-use Rattle.bounded.proofs.Search.{LeastIs, least-is}
-use Rattle.bounded.proofs.Tests.{clash, lt-or-le}
+use Rattle.words_bounded.specs.Bounded.{leastBelow}
+use Rattle.words_bounded.proofs.Search.{LeastIs, least-is}
+use Rattle.words_bounded.proofs.Tests.{clash, lt-or-le}
 use Rattle.search.specs.Search.{foundOf}
 use Rattle.search.specs.Code.{lower, reached}
 use Rattle.search.specs.declared.Found.{Found}

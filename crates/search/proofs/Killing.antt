@@ -12,12 +12,12 @@ use Prim.Native.Nat.{ℕ, _+_, _*_, _/_, _%_, _^_, _≤_, _<_}
 use native.Mathlib.Omega.{arith}
 use lib.Bits.{bitAnd, bitOr, bitXor}
 use lib.ListN.{getD}
-use Rattle.bounded.proofs.Tests.{eq-or-not}
-use Rattle.gf2.specs.Words.{digit}
-use Rattle.gf2.proofs.Digits.{digit-lt, digit-none, digit-and, digit-or}
-use Rattle.gf2.proofs.Xor.{digit-xor}
-use Rattle.space.specs.Space.{pick}
-use Rattle.lanes.proofs.Lanes.{all-lanes}
+use Rattle.words_bounded.proofs.Tests.{eq-or-not}
+use Rattle.words_gf2.specs.Words.{digit}
+use Rattle.words_gf2.proofs.Digits.{digit-lt, digit-none, digit-and, digit-or}
+use Rattle.words_gf2.proofs.Xor.{digit-xor}
+use Rattle.search_space.specs.Space.{pick}
+use Rattle.search_lanes.proofs.Lanes.{all-lanes}
 use Rattle.search.specs.Clauses.{clear}
 use Rattle.search.specs.Leaf.{Matched, AllMatched, Filled, Kills}
 use Rattle.search.specs.declared.Pattern.{Pattern}

@@ -17,9 +17,9 @@ use native.Mathlib.Omega.{arith}
 use lib.ListN.{getD, length, drop, length-drop, drop-of-length-le}
 use lib.Seq.{drop-cons, getD-take, getD-drop, length-take-le}
 use borrow.Author.Tests.{eq-eqb, ne-eqb, not-true}
-use Rattle.bounded.specs.Bounded.{NoneBelow}
-use Rattle.bounded.proofs.Tests.{both, and-yes}
-use Rattle.gf2.specs.Words.{odd}
+use Rattle.words_bounded.specs.Bounded.{NoneBelow}
+use Rattle.words_bounded.proofs.Tests.{both, and-yes}
+use Rattle.words_gf2.specs.Words.{odd}
 use Rattle.search.specs.Clauses.{row, reads, shown, clear}
 use Rattle.search.specs.declared.Pattern.{Pattern}
 

@@ -11,11 +11,11 @@ use native.Mathlib.Omega.{arith}
 use lib.Bits.{bitXor}
 use lib.ListN.{getD, length, take, drop, take-append-drop}
 use lib.Seq.{getD-take, take-take, length-take-le}
-use Rattle.bounded.proofs.Tests.{lt-or-le}
-use Rattle.space.specs.Space.{pick, Rising}
-use Rattle.space.proofs.Members.{Among}
-use Rattle.space.proofs.Blocks.{block-within, front-within, front-split}
-use Rattle.space.proofs.Numbers.{pick-among, pick-front, pick-rises, among-pick}
+use Rattle.words_bounded.proofs.Tests.{lt-or-le}
+use Rattle.search_space.specs.Space.{pick, Rising}
+use Rattle.search_space.proofs.Members.{Among}
+use Rattle.search_space.proofs.Blocks.{block-within, front-within, front-split}
+use Rattle.search_space.proofs.Numbers.{pick-among, pick-front, pick-rises, among-pick}
 use Rattle.search.specs.Code.{lower}
 use Rattle.search.specs.Search.{lowestClear}
 use Rattle.search.specs.declared.Found.{Found}

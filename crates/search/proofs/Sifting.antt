@@ -14,12 +14,12 @@ use native.Mathlib.Omega.{arith}
 use lib.ListN.{length}
 use lib.Pow.{pow-add, pow-mono}
 use borrow.Author.Tests.{leb-true}
-use Rattle.bounded.proofs.Tests.{clash, eq-or-not, lt-or-le}
-use Rattle.gf2.specs.Words.{digit}
-use Rattle.space.specs.Space.{pick, Rising}
-use Rattle.space.proofs.Members.{Among}
-use Rattle.space.proofs.Numbers.{pick-among, among-pick, pick-rises}
-use Rattle.lanes.proofs.Lanes.{all-lanes}
+use Rattle.words_bounded.proofs.Tests.{clash, eq-or-not, lt-or-le}
+use Rattle.words_gf2.specs.Words.{digit}
+use Rattle.search_space.specs.Space.{pick, Rising}
+use Rattle.search_space.proofs.Members.{Among}
+use Rattle.search_space.proofs.Numbers.{pick-among, among-pick, pick-rises}
+use Rattle.search_lanes.proofs.Lanes.{all-lanes}
 use Rattle.search.specs.Clauses.{clear}
 use Rattle.search.specs.Code.{lower, reached}
 use Rattle.search.specs.Search.{lowestClear}

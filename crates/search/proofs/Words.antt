@@ -14,15 +14,15 @@ use native.Mathlib.Omega.{arith}
 use lib.Bits.{bitXor}
 use lib.ListN.{getD, length, take, drop, set, take-append-drop, length-drop, length-set}
 use lib.Seq.{getD-set-same, getD-set-other, take-all, take-take, take-append-add, length-take-le}
-use Rattle.bounded.proofs.Tests.{clash, eq-or-not, fails}
-use Rattle.gf2.specs.Words.{digit, odd}
-use Rattle.gf2.proofs.Digits.{digit-lt}
-use Rattle.gf2.proofs.Parity.{xor-odd}
-use Rattle.gf2.proofs.Xor.{digit-xor}
-use Rattle.space.specs.Space.{pick}
-use Rattle.space.proofs.Numbers.{pick-split}
-use Rattle.lanes.specs.Lanes.{readings}
-use Rattle.lanes.proofs.Lanes.{reading-lane, all-lanes}
+use Rattle.words_bounded.proofs.Tests.{clash, eq-or-not, fails}
+use Rattle.words_gf2.specs.Words.{digit, odd}
+use Rattle.words_gf2.proofs.Digits.{digit-lt}
+use Rattle.words_gf2.proofs.Parity.{xor-odd}
+use Rattle.words_gf2.proofs.Xor.{digit-xor}
+use Rattle.search_space.specs.Space.{pick}
+use Rattle.search_space.proofs.Numbers.{pick-split}
+use Rattle.search_lanes.specs.Lanes.{readings}
+use Rattle.search_lanes.proofs.Lanes.{reading-lane, all-lanes}
 use Rattle.search.specs.Clauses.{row, reads, shown, clear}
 use Rattle.search.specs.Leaf.{Reads, Matched, AllMatched, RowFilled, Filled}
 use Rattle.search.specs.declared.Pattern.{Pattern}

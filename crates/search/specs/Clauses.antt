@@ -8,7 +8,7 @@ use mathlib.Core.List.{List, [], _∷_}
 use Prim.Native.Nat.{ℕ, zero, suc, _*_, _/_, _%_}
 use lib.Dec.{eqb}
 use lib.ListN.{take, drop}
-use Rattle.gf2.specs.Words.{odd}
+use Rattle.words_gf2.specs.Words.{odd}
 use Rattle.search.specs.declared.Pattern.{Pattern}
 
 abbrev pub row : ℕ → List ℕ → ℕ → List ℕ

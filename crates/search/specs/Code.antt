@@ -7,7 +7,7 @@ use mathlib.Core.Option.{Option·getD}
 use mathlib.Core.List.{List}
 use Prim.Native.Nat.{ℕ}
 use lib.Dec.{leb}
-use Rattle.bounded.specs.Bounded.{leastBelow}
+use Rattle.words_bounded.specs.Bounded.{leastBelow}
 use Rattle.search.specs.Clauses.{shown}
 use Rattle.search.specs.declared.Pattern.{Pattern}
 use Rattle.search.specs.declared.Found.{Found}

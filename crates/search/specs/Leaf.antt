@@ -12,8 +12,8 @@ use mathlib.Core.Bool.{Bool, true, false}
 use mathlib.Core.List.{List}
 use Prim.Native.Nat.{ℕ, _+_, _*_, _%_, _≤_, _<_}
 use lib.ListN.{getD, length}
-use Rattle.gf2.specs.Words.{digit, odd}
-use Rattle.space.specs.Space.{pick}
+use Rattle.words_gf2.specs.Words.{digit, odd}
+use Rattle.search_space.specs.Space.{pick}
 use Rattle.search.specs.Clauses.{shown, clear}
 use Rattle.search.specs.declared.Pattern.{Pattern}
 

@@ -5,8 +5,8 @@ use mathlib.Core.Bool.{_&&_}
 use mathlib.Core.Option.{Option, none, some}
 use mathlib.Core.List.{List}
 use Prim.Native.Nat.{ℕ, _^_}
-use Rattle.bounded.specs.Bounded.{leastBelow}
-use Rattle.space.specs.Space.{among}
+use Rattle.words_bounded.specs.Bounded.{leastBelow}
+use Rattle.search_space.specs.Space.{among}
 use Rattle.search.specs.Clauses.{clear}
 use Rattle.search.specs.declared.Pattern.{Pattern}
 use Rattle.search.specs.declared.Found.{Found}

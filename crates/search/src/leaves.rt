@@ -8,8 +8,8 @@ ghost use mathlib.Core.Bool.{true, false};
 ghost use mathlib.Core.Path.{_≡_};
 ghost use Prim.Native.Nat.{ℕ, _+_, _*_, _≤_, _<_};
 ghost use lib.ListN.{getD, length, take};
-ghost use Rattle.gf2.specs.Words.{digit};
-ghost use Rattle.space.specs.Space.{pick, Rising};
+ghost use Rattle.words_gf2.specs.Words.{digit};
+ghost use Rattle.search_space.specs.Space.{pick, Rising};
 ghost use Rattle.search.specs.Clauses.{clear};
 ghost use Rattle.search.specs.Search.{lowestClear};
 ghost use Rattle.search.specs.Code.{lower};
@@ -31,8 +31,8 @@ struct Column {
 pub(crate) fn is_leaf(pattern: Pattern, free: usize) -> bool
     ensures { λ r. ⌜ (r ≡ true → LeafSized pattern free) ⌝ }
 {
-    if bounded::within(lanes::VECTORS, LEAF_VECTORS, free) {
-        return bounded::within(2, 64, pattern.columns);
+    if words_bounded::within(search_lanes::VECTORS, LEAF_VECTORS, free) {
+        return words_bounded::within(2, 64, pattern.columns);
     }
     false
 }
@@ -42,15 +42,15 @@ fn column_of(lowest: u64, vectors: &[u64], free: usize, mask: u64, bit: u64) -> 
     requires { ⌜ (6 ≤ free) × (free ≤ 12) × (free ≤ length (now vectors)) × (bit < 2) ⌝ }
     ensures { λ r. ⌜ Reads lowest (take free (now (vectors .entry))) mask bit (r .low) (r .high) ⌝ }
 {
-    let six = lanes::VECTORS;
-    let low = lanes::reading(0, &vectors[..six], mask);
-    let high = lanes::reading(lowest, &vectors[six..free], mask);
+    let six = search_lanes::VECTORS;
+    let low = search_lanes::reading(0, &vectors[..six], mask);
+    let high = search_lanes::reading(lowest, &vectors[six..free], mask);
     if bit == 1 {
         return Column { low, high };
     }
     Column {
         low,
-        high: high ^ lanes::ALL,
+        high: high ^ search_lanes::ALL,
     }
 }
 
@@ -146,7 +146,7 @@ fn lanes_of(words: &[u64], place: usize, group: usize) -> u64
     let low = words[place];
     let high = words[place + 1];
     if (high >> group) % 2 == 1 {
-        low ^ lanes::ALL
+        low ^ search_lanes::ALL
     } else {
         low
     }
@@ -185,7 +185,7 @@ fn dead_lanes(words: &[u64], columns: usize, count: usize, group: usize) -> u64
     let mut row: usize = 0;
     while row < count {
         dead = dead | showing(words, row * width, columns, group);
-        if dead == lanes::ALL {
+        if dead == search_lanes::ALL {
             return dead;
         }
         row += 1;
@@ -212,8 +212,8 @@ fn clear_lane(
     let base = group * 64;
     let mut lane: usize = 0;
     while lane < 64 {
-        if gf2::digit(dead, lane) == 0 {
-            let state = space::member(lowest, vectors, free, base + lane);
+        if words_gf2::digit(dead, lane) == 0 {
+            let state = search_space::member(lowest, vectors, free, base + lane);
             if first_shown(pattern, table, rows, state) == rows {
                 return lane;
             }
@@ -242,19 +242,22 @@ fn sift(
     ensures { λ r. ⌜ r ≡ lower before (lowestClear pattern (now (table .entry)) rows lowest (take free (now (vectors .entry)))) ⌝ }
 {
     let columns = pattern.columns;
-    let groups = 1usize << (free - lanes::VECTORS);
+    let groups = 1usize << (free - search_lanes::VECTORS);
     let mut group: usize = 0;
     while group < groups {
         let dead = dead_lanes(words, columns, count, group);
-        if dead != lanes::ALL {
-            if reached(before, space::member(lowest, vectors, free, group * 64)) {
+        if dead != search_lanes::ALL {
+            if reached(
+                before,
+                search_space::member(lowest, vectors, free, group * 64),
+            ) {
                 return before;
             }
             let lane = clear_lane(pattern, table, rows, lowest, vectors, free, group, dead);
             if lane < 64 {
                 return lower_of(
                     before,
-                    space::member(lowest, vectors, free, group * 64 + lane),
+                    search_space::member(lowest, vectors, free, group * 64 + lane),
                 );
             }
         }

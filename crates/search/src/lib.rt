@@ -14,7 +14,7 @@ use rows::first_shown;
 ghost use mathlib.Core.Path.{_≡_};
 ghost use Prim.Native.Nat.{ℕ, _*_, _≤_};
 ghost use lib.ListN.{length, take};
-ghost use Rattle.space.specs.Space.{Rising};
+ghost use Rattle.search_space.specs.Space.{Rising};
 ghost use Rattle.search.specs.Search.{lowestClear};
 ghost use Rattle.search.specs.Code.{lower};
 ghost use Rattle.search.specs.declared.Found.the-variants.{State};
@@ -66,7 +66,7 @@ fn branch(
     let mut found = before;
     let mut position: usize = 0;
     while position < columns {
-        let taken = space::take_out(&mut rest, left, table[first + position]);
+        let taken = search_space::take_out(&mut rest, left, table[first + position]);
         left = taken.left;
         if taken.pivot != 0 {
             found = branch(
@@ -98,8 +98,8 @@ fn rise(
     requires { ⌜ rows * pattern .columns ≤ length (now table) ⌝ }
     ensures { λ r. ⌜ ((s : ℕ) → r ≡ State s → r ≡ lowestClear pattern (now (table .entry)) rows lowest (take free vectors)) ⌝ }
 {
-    let most = bounded::lesser(free, 64);
-    let mut count = bounded::lesser(most, LEAF_VECTORS);
+    let most = words_bounded::lesser(free, 64);
+    let mut count = words_bounded::lesser(most, LEAF_VECTORS);
     let mut found = branch(pattern, table, rows, lowest, vectors, count, Found::Nothing);
     while count + LAST_VECTORS < most {
         found = branch(

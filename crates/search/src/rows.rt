@@ -16,7 +16,7 @@ fn shown(pattern: Pattern, table: &[u64], row: usize, state: u64) -> bool
     let mut bits = pattern.bits;
     let mut column: usize = 0;
     while column < columns {
-        if gf2::odd(state, table[first + column]) != bits % 2 {
+        if words_gf2::odd(state, table[first + column]) != bits % 2 {
             return false;
         }
         bits = bits / 2;

@@ -4,17 +4,17 @@ use mathlib.Core.Path.{_≡_, refl}
 use mathlib.Core.Logic.{_⊎_, inl, inr}
 use mathlib.Core.List.{List}
 use Prim.Native.Nat.{ℕ}
-use Rattle.causes.specs.declared.Written.{Written}
-use Rattle.causes.specs.declared.Written.the-variants as written
-use Rattle.causes.specs.Outcome.{fill}
-use Rattle.causes.specs.Sheet.{OnSheet}
-use Rattle.causes.proofs.Sheet.{on-sheet}
-use Rattle.checks.specs.declared.Verdict.{Verdict}
-use Rattle.checks.specs.declared.Verdict.the-variants as verdict
+use Rattle.refusal_causes.specs.declared.Written.{Written}
+use Rattle.refusal_causes.specs.declared.Written.the-variants as written
+use Rattle.refusal_causes.specs.Outcome.{fill}
+use Rattle.refusal_causes.specs.Sheet.{OnSheet}
+use Rattle.refusal_causes.proofs.Sheet.{on-sheet}
+use Rattle.refusal_checks.specs.declared.Verdict.{Verdict}
+use Rattle.refusal_checks.specs.declared.Verdict.the-variants as verdict
 use Rattle.stop.specs.declared.Formed.{Formed}
 use Rattle.stop.specs.declared.Formed.the-variants as formed
-use Rattle.covering.specs.declared.Seed.{Seed}
-use Rattle.covering.specs.declared.Seed.the-variants as seed
+use Rattle.theory_covering.specs.declared.Seed.{Seed}
+use Rattle.theory_covering.specs.declared.Seed.the-variants as seed
 use Rattle.encoder.specs.declared.Encoded.{Encoded}
 use Rattle.encoder.specs.declared.Encoded.the-variants as encoded
 use Rattle.text.specs.Replies.{Reply, RefusedBy, text, refused, encodeReply, expandReply}

@@ -11,14 +11,14 @@
 use mathlib.Core.Path.{_≡_}
 use mathlib.Core.Logic.{_⊎_}
 use Prim.Native.Nat.{ℕ}
-use Rattle.causes.specs.Sheet.{refusalOf, OnSheet}
-use Rattle.register.specs.declared.Register.{Register}
-use Rattle.slices.specs.declared.TestSlice.{TestSlice}
-use Rattle.causes.specs.declared.Written.{Written}
-use Rattle.checks.specs.declared.Verdict.{Verdict}
-use Rattle.checks.specs.declared.Verdict.the-variants.{WellFormed, Refused}
+use Rattle.refusal_causes.specs.Sheet.{refusalOf, OnSheet}
+use Rattle.machine_register.specs.declared.Register.{Register}
+use Rattle.machine_slices.specs.declared.TestSlice.{TestSlice}
+use Rattle.refusal_causes.specs.declared.Written.{Written}
+use Rattle.refusal_checks.specs.declared.Verdict.{Verdict}
+use Rattle.refusal_checks.specs.declared.Verdict.the-variants.{WellFormed, Refused}
 use Rattle.stop.specs.declared.Formed.{Formed}
-use Rattle.covering.specs.declared.Seed.{Seed}
+use Rattle.theory_covering.specs.declared.Seed.{Seed}
 use Rattle.encoder.specs.declared.Encoded.{Encoded}
 use Rattle.text.specs.declared.Answer as textAnswer
 use Rattle.seeds.specs.declared.Answer.{Answer}
@@ -26,9 +26,9 @@ use Rattle.seeds.specs.declared.SeedAnswer.{SeedAnswer}
 use Rattle.seeds.specs.declared.CubesAnswer.{CubesAnswer}
 use Rattle.seeds.specs.declared.StopAnswer.{StopAnswer}
 use Rattle.seeds.specs.declared.TextAnswer.{TextAnswer}
-use Rattle.causes.specs.declared.Written.the-variants as written
+use Rattle.refusal_causes.specs.declared.Written.the-variants as written
 use Rattle.stop.specs.declared.Formed.the-variants as formed
-use Rattle.covering.specs.declared.Seed.the-variants as seed
+use Rattle.theory_covering.specs.declared.Seed.the-variants as seed
 use Rattle.encoder.specs.declared.Encoded.the-variants as encoded
 use Rattle.text.specs.declared.Answer.the-variants as texts
 

@@ -1,23 +1,23 @@
 // The library's face for C and Rust: entries without `requires`, each a few lines over the crates below.
-use causes::Written;
-use checks::Verdict;
-use covering::Seed;
 use encoder::Encoded;
-use register::Register;
-use slices::TestSlice;
+use machine_register::Register;
+use machine_slices::TestSlice;
+use refusal_causes::Written;
+use refusal_checks::Verdict;
 use stop::Formed;
+use theory_covering::Seed;
 ghost use mathlib.Core.Path.{_≡_};
 ghost use lib.ListN.{take};
-ghost use Rattle.register.specs.Register.{stepOf};
-ghost use Rattle.register.specs.Machine.{base};
-ghost use Rattle.register.specs.Chains.{slice as sliceOf};
-ghost use Rattle.slices.specs.Slices.{agrees, shows};
-ghost use Rattle.checks.specs.Order.{judged};
-ghost use Rattle.checks.specs.Calls.{windowFaults, setFaults, cubesFaults, stopFaults, listFaults};
+ghost use Rattle.machine_register.specs.Register.{stepOf};
+ghost use Rattle.machine_register.specs.Machine.{base};
+ghost use Rattle.machine_register.specs.Chains.{slice as sliceOf};
+ghost use Rattle.machine_slices.specs.Slices.{agrees, shows};
+ghost use Rattle.refusal_checks.specs.Order.{judged};
+ghost use Rattle.refusal_checks.specs.Calls.{windowFaults, setFaults, cubesFaults, stopFaults, listFaults};
 ghost use Rattle.stop.specs.Lookup.{inCount};
 ghost use Rattle.stop.specs.Entry.{stopOf};
 ghost use Rattle.expander.specs.Expanding.{expandList};
-ghost use Rattle.covering.specs.Single.{windowSeed, WindowMeaning};
+ghost use Rattle.theory_covering.specs.Single.{windowSeed, WindowMeaning};
 ghost use Rattle.encoder.specs.Encoding.{encodeSet, encodeCubes};
 ghost use Rattle.encoder.specs.Meaning.{SetMeaning, CubesMeaning};
 ghost use Rattle.text.specs.Calls.{encodeCall, expandCall};
@@ -78,7 +78,7 @@ pub extern "C" fn seeds_step(cells: usize, taps: u64, state: u64) -> u64
 pub extern "C" fn seeds_slice(masks: &[u64], state: u64) -> u64
     ensures { λ r. ⌜ r ≡ sliceOf (take 64 (now (masks .entry))) state ⌝ }
 {
-    register::slice(masks, state)
+    machine_register::slice(masks, state)
 }
 
 // Whether a slice agrees with a test slice.
@@ -86,7 +86,7 @@ pub extern "C" fn seeds_slice(masks: &[u64], state: u64) -> u64
 pub extern "C" fn seeds_agrees(specified: u64, bits: u64, slice: u64) -> bool
     ensures { λ r. ⌜ r ≡ agrees (testSliceOf specified bits) slice ⌝ }
 {
-    slices::agrees(TestSlice { specified, bits }, slice)
+    machine_slices::agrees(TestSlice { specified, bits }, slice)
 }
 
 // Whether a slice shows the stop slice.
@@ -98,7 +98,7 @@ pub extern "C" fn seeds_shows(stop_specified: u64, stop_bits: u64, slice: u64) -
         specified: stop_specified,
         bits: stop_bits,
     };
-    slices::shows(stop, slice)
+    machine_slices::shows(stop, slice)
 }
 
 // The number of a verdict: 0 where nothing is refused.
@@ -108,7 +108,7 @@ fn number(verdict: Verdict) -> usize
     match verdict {
         Verdict::WellFormed => 0,
         Verdict::Refused(cause) => {
-            let refusal = causes::refusal_of(cause);
+            let refusal = refusal_causes::refusal_of(cause);
             refusal.number
         }
     }
@@ -131,7 +131,13 @@ pub extern "C" fn seeds_check_window(
         specified: stop_specified,
         bits: stop_bits,
     };
-    number(checks::check_window(register::base(cells, taps), masks, stop, specified, bits))
+    number(refusal_checks::check_window(
+        machine_register::base(cells, taps),
+        masks,
+        stop,
+        specified,
+        bits,
+    ))
 }
 
 // The number of the first of causes 1 to 5 that refuses a set with its stop slice, or 0.
@@ -151,7 +157,13 @@ pub extern "C" fn seeds_check_set(
         specified: stop_specified,
         bits: stop_bits,
     };
-    number(checks::check_set(register::base(cells, taps), masks, stop, specified, bits))
+    number(refusal_checks::check_set(
+        machine_register::base(cells, taps),
+        masks,
+        stop,
+        specified,
+        bits,
+    ))
 }
 
 // The number of the first of causes 1 to 4 that refuses a set that comes as cubes, or 0.
@@ -166,7 +178,13 @@ pub extern "C" fn seeds_check_cubes(
 ) -> usize
     ensures { λ r. ⌜ r ≡ numberOf (judged (cubesFaults (base cells taps) (now (masks .entry)) depth (now (specified .entry)) (now (bits .entry)))) ⌝ }
 {
-    number(checks::check_cubes(register::base(cells, taps), masks, depth, specified, bits))
+    number(refusal_checks::check_cubes(
+        machine_register::base(cells, taps),
+        masks,
+        depth,
+        specified,
+        bits,
+    ))
 }
 
 // The number of the first of causes 2 to 4 that refuses a set whose stop slice is asked for, or 0.
@@ -174,7 +192,7 @@ pub extern "C" fn seeds_check_cubes(
 pub extern "C" fn seeds_check_stop(chains: usize, specified: &[u64], bits: &[u64]) -> usize
     ensures { λ r. ⌜ r ≡ numberOf (judged (stopFaults chains (now (specified .entry)) (now (bits .entry)))) ⌝ }
 {
-    number(checks::check_stop(chains, specified, bits))
+    number(refusal_checks::check_stop(chains, specified, bits))
 }
 
 // The number of the first of causes 1, 2, 3 and 5 that refuses a seed list before its seeds are run, or 0.
@@ -194,7 +212,13 @@ pub extern "C" fn seeds_check_list(
         specified: stop_specified,
         bits: stop_bits,
     };
-    number(checks::check_list(register::base(cells, taps), masks, stop, slices, seeds))
+    number(refusal_checks::check_list(
+        machine_register::base(cells, taps),
+        masks,
+        stop,
+        slices,
+        seeds,
+    ))
 }
 
 // The number and value of a call that writes.
@@ -207,7 +231,7 @@ fn answer_of(written: Written) -> Answer
             value: count,
         },
         Written::Refused(cause) => {
-            let refusal = causes::refusal_of(cause);
+            let refusal = refusal_causes::refusal_of(cause);
             Answer {
                 number: refusal.number,
                 value: refusal.value,
@@ -228,7 +252,7 @@ fn stop_answer_of(formed: Formed) -> StopAnswer
             bits: stop.bits,
         },
         Formed::Refused(cause) => {
-            let refusal = causes::refusal_of(cause);
+            let refusal = refusal_causes::refusal_of(cause);
             StopAnswer {
                 number: refusal.number,
                 value: refusal.value,
@@ -297,7 +321,7 @@ fn seed_answer_of(seed: Seed) -> SeedAnswer
             seed: state,
         },
         Seed::Refused(cause) => {
-            let refusal = causes::refusal_of(cause);
+            let refusal = refusal_causes::refusal_of(cause);
             SeedAnswer {
                 number: refusal.number,
                 value: refusal.value,
@@ -319,7 +343,7 @@ fn cubes_answer_of(encoded: Encoded) -> CubesAnswer
             bits: slice.bits,
         },
         Encoded::Refused(cause) => {
-            let refusal = causes::refusal_of(cause);
+            let refusal = refusal_causes::refusal_of(cause);
             CubesAnswer {
                 number: refusal.number,
                 value: refusal.value,

@@ -11,23 +11,23 @@ use mathlib.Core.List.{List}
 use Prim.Native.Nat.{ℕ, _≤_, _<_}
 use native.Mathlib.Omega.{arith}
 use lib.ListN.{length}
-use Rattle.causes.specs.declared.Cause.{Cause}
-use Rattle.register.proofs.Causes.{count-within}
-use Rattle.slices.specs.declared.TestSlice.{TestSlice}
-use Rattle.slices.specs.Slices.{paired}
-use Rattle.slices.proofs.Formed.{slices-length}
-use Rattle.checks.proofs.Lengths.{set-within}
-use Rattle.checks.specs.Order.{judged}
-use Rattle.checks.specs.Calls.{stopFaults}
-use Rattle.checks.specs.declared.Verdict.{Verdict}
-use Rattle.checks.proofs.Order.{NoFault, formed-well}
+use Rattle.refusal_causes.specs.declared.Cause.{Cause}
+use Rattle.machine_register.proofs.Causes.{count-within}
+use Rattle.machine_slices.specs.declared.TestSlice.{TestSlice}
+use Rattle.machine_slices.specs.Slices.{paired}
+use Rattle.machine_slices.proofs.Formed.{slices-length}
+use Rattle.refusal_checks.proofs.Lengths.{set-within}
+use Rattle.refusal_checks.specs.Order.{judged}
+use Rattle.refusal_checks.specs.Calls.{stopFaults}
+use Rattle.refusal_checks.specs.declared.Verdict.{Verdict}
+use Rattle.refusal_checks.proofs.Order.{NoFault, formed-well}
 use Rattle.stop.specs.Steps.{stopFor}
 use Rattle.stop.specs.Entry.{stopOr6, stopOf}
 use Rattle.stop.specs.Meaning.{StopMeaning, SixMeaning}
 use Rattle.stop.specs.declared.Formed.the-variants.{Stop, Refused}
 use Rattle.stop.proofs.Meaning.{stop-means, six-means}
-use Rattle.causes.specs.declared.Cause.the-variants as cause
-use Rattle.checks.specs.declared.Verdict.the-variants as verdict
+use Rattle.refusal_causes.specs.declared.Cause.the-variants as cause
+use Rattle.refusal_checks.specs.declared.Verdict.the-variants as verdict
 
 or6-stop : (o : Option TestSlice) (stop : TestSlice) → stopOr6 o ≡ Stop stop → o ≡ some stop
 unfolding stopOr6

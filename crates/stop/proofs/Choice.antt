@@ -16,9 +16,9 @@ use native.Mathlib.Omega.{arith}
 use lib.Dec.{ltb, eqb}
 use lib.ListN.{length}
 use borrow.Author.Tests.{ltb-true, ltb-false, eqb-true, ne-eqb}
-use Rattle.bounded.proofs.Tests.{clash, lt-or-le, both}
-use Rattle.gf2.specs.Words.{digit}
-use Rattle.slices.specs.declared.TestSlice.{TestSlice}
+use Rattle.words_bounded.proofs.Tests.{clash, lt-or-le, both}
+use Rattle.words_gf2.specs.Words.{digit}
+use Rattle.machine_slices.specs.declared.TestSlice.{TestSlice}
 use Rattle.stop.specs.Steps.{has, filter, isSet, count, better, choice, keep}
 
 pub record Chosen (stop : TestSlice) (counts : ℕ → ℕ) (n q : ℕ) : Type 0 where

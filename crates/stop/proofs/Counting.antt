@@ -14,11 +14,11 @@ use lib.Bits.{bitAnd}
 use lib.ListN.{length, drop, drop-of-length-le}
 use lib.Seq.{drop-cons}
 use borrow.Author.Tests.{eq-eqb, ne-eqb}
-use Rattle.bounded.proofs.Tests.{lt-or-le}
-use Rattle.gf2.proofs.Digits.{put-below}
-use Rattle.slices.specs.declared.TestSlice.{TestSlice}
-use Rattle.slices.specs.Slices.{shows, paired}
-use Rattle.slices.proofs.Causes.{sliceAt}
+use Rattle.words_bounded.proofs.Tests.{lt-or-le}
+use Rattle.words_gf2.proofs.Digits.{put-below}
+use Rattle.machine_slices.specs.declared.TestSlice.{TestSlice}
+use Rattle.machine_slices.specs.Slices.{shows, paired}
+use Rattle.machine_slices.proofs.Causes.{sliceAt}
 use Rattle.stop.specs.Steps.{filter}
 use Rattle.stop.specs.Lookup.{isIn, inCount}
 use Rattle.stop.specs.Code.{Unset}

@@ -11,7 +11,7 @@ use Prim.Native.Nat.{ℕ, zero, suc, _<_}
 use native.Mathlib.Nat.{not-suc-le-zero, le-of-suc-le-suc}
 use native.Mathlib.Omega.{arith}
 use lib.ListN.{length, getD}
-use Rattle.slices.specs.declared.TestSlice.{TestSlice}
+use Rattle.machine_slices.specs.declared.TestSlice.{TestSlice}
 use Rattle.stop.specs.Steps.{filter}
 
 abbrev picked : TestSlice → Bool → List TestSlice → List TestSlice

@@ -18,12 +18,12 @@ use lib.Bits.{bitAnd, and-zero-r}
 use lib.Dec.{eqb}
 use lib.ListN.{length}
 use borrow.Author.Tests.{eqb-true, eqb-false, eq-eqb, ne-eqb}
-use Rattle.bounded.proofs.Tests.{clash, lt-or-le, both, and-yes, alike}
-use Rattle.gf2.specs.Words.{digit}
-use Rattle.gf2.proofs.Digits.{digit-and, digit-lt, words-equal, put-same, put-other}
-use Rattle.slices.specs.declared.TestSlice.{TestSlice}
-use Rattle.slices.specs.Slices.{agrees, shows}
-use Rattle.slices.proofs.Agreeing.{agrees-each, each-agrees}
+use Rattle.words_bounded.proofs.Tests.{clash, lt-or-le, both, and-yes, alike}
+use Rattle.words_gf2.specs.Words.{digit}
+use Rattle.words_gf2.proofs.Digits.{digit-and, digit-lt, words-equal, put-same, put-other}
+use Rattle.machine_slices.specs.declared.TestSlice.{TestSlice}
+use Rattle.machine_slices.specs.Slices.{agrees, shows}
+use Rattle.machine_slices.proofs.Agreeing.{agrees-each, each-agrees}
 use Rattle.stop.specs.Steps.{has, isSet, filter, count, put, settle, keep, start}
 use Rattle.stop.specs.Lookup.{HasAll, BitsSpecified, isIn}
 use Rattle.stop.proofs.Filter.{filter-alike, filter-filter, filter-all}

@@ -12,12 +12,12 @@ use native.Mathlib.Omega.{arith}
 use lib.Bits.{and-le-r}
 use lib.ListN.{length, getD}
 use borrow.Author.Tests.{eqb-true, eq-eqb}
-use Rattle.bounded.proofs.Tests.{clash, lt-or-le}
-use Rattle.gf2.specs.Words.{digit}
-use Rattle.gf2.proofs.Digits.{digit-wide, beyond-no}
-use Rattle.gf2.proofs.Ones.{ones-full}
-use Rattle.slices.specs.declared.TestSlice.{TestSlice}
-use Rattle.slices.proofs.Causes.{slice-last, stop-formed}
+use Rattle.words_bounded.proofs.Tests.{clash, lt-or-le}
+use Rattle.words_gf2.specs.Words.{digit}
+use Rattle.words_gf2.proofs.Digits.{digit-wide, beyond-no}
+use Rattle.words_gf2.proofs.Ones.{ones-full}
+use Rattle.machine_slices.specs.declared.TestSlice.{TestSlice}
+use Rattle.machine_slices.proofs.Causes.{slice-last, stop-formed}
 use Rattle.stop.specs.Steps.{isSet, isEmpty, Stage, stage, ended, stopFor}
 use Rattle.stop.specs.Lookup.{isIn}
 use Rattle.stop.specs.Meaning.{AllSet, StopMeaning, SixMeaning}

@@ -12,8 +12,8 @@ use Prim.Native.Nat.{ℕ, _+_, _-_, _*_, _/_, _%_, _≤_}
 use native.Mathlib.Numerals.{add-one}
 use native.Mathlib.Omega.{arith}
 use lib.ListN.{length}
-use Rattle.slices.specs.declared.TestSlice.{TestSlice}
-use Rattle.slices.specs.Slices.{paired}
+use Rattle.machine_slices.specs.declared.TestSlice.{TestSlice}
+use Rattle.machine_slices.specs.Slices.{paired}
 use Rattle.stop.specs.Steps.{choice, put, settle, isEmpty, Stage, setBy, advance, stage, ended, stopFor}
 use Rattle.stop.specs.Lookup.{BitsSpecified, inCount}
 use Rattle.stop.specs.Code.{Unset, tracked, inOf, countIn, chosen, nextOf}
@@ -23,7 +23,7 @@ use Rattle.stop.specs.declared.Formed.{Formed}
 use Rattle.stop.specs.declared.Formed.the-variants.{Stop, Refused}
 use Rattle.stop.proofs.Choice.{Chosen, choice-is}
 use Rattle.stop.proofs.Stages.{advanced, stage-sound, stage-left}
-use Rattle.causes.specs.declared.Cause.the-variants as cause
+use Rattle.refusal_causes.specs.declared.Cause.the-variants as cause
 
 empty-zero : (l : List TestSlice) → length l ≡ 0 → isEmpty l ≡ true
 empty-zero [] e = refl

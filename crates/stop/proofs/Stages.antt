@@ -16,10 +16,10 @@ use native.Mathlib.Omega.{arith}
 use lib.Bits.{and-zero-l}
 use lib.Count.{ones}
 use lib.Pow.{pow-pos}
-use Rattle.bounded.proofs.Tests.{clash}
-use Rattle.gf2.proofs.Digits.{put-below}
-use Rattle.gf2.proofs.Ones.{ones-put}
-use Rattle.slices.specs.declared.TestSlice.{TestSlice}
+use Rattle.words_bounded.proofs.Tests.{clash}
+use Rattle.words_gf2.proofs.Digits.{put-below}
+use Rattle.words_gf2.proofs.Ones.{ones-put}
+use Rattle.machine_slices.specs.declared.TestSlice.{TestSlice}
 use Rattle.stop.specs.Steps.{isSet, filter, count, choice, settle, keep, isEmpty, Stage, start, setBy, advance, stage}
 use Rattle.stop.specs.Lookup.{BitsSpecified, isIn}
 use Rattle.stop.specs.Meaning.{AllSet}

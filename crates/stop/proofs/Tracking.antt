@@ -12,10 +12,10 @@ use native.Mathlib.Numerals.{add-one}
 use native.Mathlib.Omega.{arith}
 use lib.Dec.{ltb}
 use borrow.Author.Tests.{lt-ltb, le-ltb, eq-eqb}
-use Rattle.gf2.specs.Words.{digit}
-use Rattle.gf2.proofs.Digits.{digit-lt}
-use Rattle.slices.specs.declared.TestSlice.{TestSlice}
-use Rattle.slices.specs.Slices.{paired}
+use Rattle.words_gf2.specs.Words.{digit}
+use Rattle.words_gf2.proofs.Digits.{digit-lt}
+use Rattle.machine_slices.specs.declared.TestSlice.{TestSlice}
+use Rattle.machine_slices.specs.Slices.{paired}
 use Rattle.stop.specs.Steps.{isSet, put, better, choice}
 use Rattle.stop.specs.Lookup.{BitsSpecified, inCount}
 use Rattle.stop.specs.Code.{tracked, track, countIn, weighed}

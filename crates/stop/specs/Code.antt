@@ -13,8 +13,8 @@ use mathlib.Core.Option.{Option, none, some}
 use mathlib.Core.List.{List}
 use Prim.Native.Nat.{ℕ, _*_, _/_, _<_}
 use lib.Dec.{ltb}
-use Rattle.slices.specs.declared.TestSlice.{TestSlice}
-use Rattle.slices.specs.Slices.{paired}
+use Rattle.machine_slices.specs.declared.TestSlice.{TestSlice}
+use Rattle.machine_slices.specs.Slices.{paired}
 use Rattle.stop.specs.Steps.{isSet, filter, count, choice, advance}
 use Rattle.stop.specs.Lookup.{BitsSpecified, isIn}
 use Rattle.stop.specs.declared.Best.{Best}

@@ -4,12 +4,12 @@
 use mathlib.Core.Option.{Option, none, some}
 use mathlib.Core.List.{List}
 use Prim.Native.Nat.{ℕ}
-use Rattle.causes.specs.declared.Cause.the-variants as cause
-use Rattle.slices.specs.declared.TestSlice.{TestSlice}
-use Rattle.slices.specs.Slices.{paired}
-use Rattle.checks.specs.Order.{judged}
-use Rattle.checks.specs.Calls.{stopFaults}
-use Rattle.checks.specs.declared.Verdict.the-variants as verdict
+use Rattle.refusal_causes.specs.declared.Cause.the-variants as cause
+use Rattle.machine_slices.specs.declared.TestSlice.{TestSlice}
+use Rattle.machine_slices.specs.Slices.{paired}
+use Rattle.refusal_checks.specs.Order.{judged}
+use Rattle.refusal_checks.specs.Calls.{stopFaults}
+use Rattle.refusal_checks.specs.declared.Verdict.the-variants as verdict
 use Rattle.stop.specs.Steps.{stopFor}
 use Rattle.stop.specs.declared.Formed.{Formed}
 use Rattle.stop.specs.declared.Formed.the-variants.{Stop, Refused}

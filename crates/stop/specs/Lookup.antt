@@ -10,9 +10,9 @@ use Prim.Native.Nat.{ℕ}
 use lib.Bits.{bitAnd}
 use lib.Dec.{eqb}
 use lib.ListN.{length}
-use Rattle.gf2.specs.Words.{digit}
-use Rattle.slices.specs.declared.TestSlice.{TestSlice}
-use Rattle.slices.specs.Slices.{shows, paired}
+use Rattle.words_gf2.specs.Words.{digit}
+use Rattle.machine_slices.specs.declared.TestSlice.{TestSlice}
+use Rattle.machine_slices.specs.Slices.{shows, paired}
 use Rattle.stop.specs.Steps.{has, isSet, filter}
 
 abbrev pub HasAll : TestSlice → TestSlice → Type 0

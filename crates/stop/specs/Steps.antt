@@ -21,8 +21,8 @@ use mathlib.Core.List.{List, [], _∷_}
 use Prim.Native.Nat.{ℕ, zero, suc, _+_, _-_, _*_, _/_, _%_, _^_}
 use lib.Dec.{ltb, eqb}
 use lib.ListN.{length}
-use Rattle.gf2.specs.Words.{digit}
-use Rattle.slices.specs.declared.TestSlice.{TestSlice}
+use Rattle.words_gf2.specs.Words.{digit}
+use Rattle.machine_slices.specs.declared.TestSlice.{TestSlice}
 
 abbrev pub has : ℕ → ℕ → TestSlice → Bool
 has p b t = eqb (digit (t .specified) p) 1 && eqb (digit (t .bits) p) b

@@ -1,10 +1,10 @@
 // The stop slice of a set (document 004, III.A, with the ties of document 01). Nothing is kept for each slice: whether one is still in is looked up.
-use causes::Cause;
-use checks::Verdict;
-use slices::TestSlice;
+use machine_slices::TestSlice;
+use refusal_causes::Cause;
+use refusal_checks::Verdict;
 ghost use mathlib.Core.Path.{_≡_};
 ghost use Prim.Native.Nat.{_≤_, _<_};
-ghost use Rattle.slices.specs.Slices.{paired};
+ghost use Rattle.machine_slices.specs.Slices.{paired};
 ghost use Rattle.stop.specs.Steps.{put as putOf, stopFor};
 ghost use Rattle.stop.specs.Lookup.{BitsSpecified, isIn, inCount};
 ghost use Rattle.stop.specs.Code.{Unset, track, weighed, chosen, nextOf};
@@ -29,14 +29,14 @@ fn is_in(stop: TestSlice, test: TestSlice) -> bool
     if test.specified & stop.specified != stop.specified {
         return false;
     }
-    slices::shows(stop, test.bits)
+    machine_slices::shows(stop, test.bits)
 }
 
 // How many test slices are still in; of two lists unequally long, the shorter counts. Under a stop slice with a bit that is not specified, none is.
 pub fn count_in(stop: TestSlice, specified: &[u64], bits: &[u64]) -> usize
     ensures { λ r. ⌜ r ≡ inCount stop (now (specified .entry)) (now (bits .entry)) ⌝ }
 {
-    let slices = bounded::lesser(specified.len(), bits.len());
+    let slices = words_bounded::lesser(specified.len(), bits.len());
     let mut count = 0;
     let mut i = 0;
     while i < slices {
@@ -88,7 +88,7 @@ fn weigh(best: Best, stop: TestSlice, choice: usize, specified: &[u64], bits: &[
     ensures { λ r. ⌜ r ≡ weighed stop (now (specified .entry)) (now (bits .entry)) choice best ⌝ }
 {
     let position = choice / 2;
-    if gf2::digit(stop.specified, position) == 0 {
+    if words_gf2::digit(stop.specified, position) == 0 {
         let counted = put(stop, position, (choice % 2) as u64);
         return better(best, choice, count_in(counted, specified, bits));
     }
@@ -151,7 +151,7 @@ fn form(chains: usize, specified: &[u64], bits: &[u64]) -> Formed
 pub fn stop_slice(chains: usize, specified: &[u64], bits: &[u64]) -> Formed
     ensures { λ r. ⌜ r ≡ stopOf chains (now (specified .entry)) (now (bits .entry)) ⌝ }
 {
-    let verdict = checks::check_stop(chains, specified, bits);
+    let verdict = refusal_checks::check_stop(chains, specified, bits);
     match verdict {
         Verdict::Refused(cause) => Formed::Refused(cause),
         Verdict::WellFormed => form(chains, specified, bits),

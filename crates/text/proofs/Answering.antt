@@ -7,14 +7,14 @@ use mathlib.Core.Path.{_≡_, ap, _∙_}
 use mathlib.Core.List.{List}
 use Prim.Native.Nat.{ℕ, min}
 use lib.ListN.{length, take}
-use Rattle.bounded.proofs.Front.{take-lesser}
-use Rattle.causes.specs.declared.Written.{Written}
-use Rattle.causes.specs.declared.Written.the-variants as written
-use Rattle.causes.specs.Outcome.{fill}
-use Rattle.register.specs.declared.Settings.{Settings}
-use Rattle.slices.specs.declared.TestSlice.{TestSlice}
+use Rattle.words_bounded.proofs.Front.{take-lesser}
+use Rattle.refusal_causes.specs.declared.Written.{Written}
+use Rattle.refusal_causes.specs.declared.Written.the-variants as written
+use Rattle.refusal_causes.specs.Outcome.{fill}
+use Rattle.machine_register.specs.declared.Settings.{Settings}
+use Rattle.machine_slices.specs.declared.TestSlice.{TestSlice}
 use Rattle.encoder.specs.declared.Encoded.the-variants as encoding
-use Rattle.writing.specs.Writing.{sliceLines, listText}
+use Rattle.text_writing.specs.Writing.{sliceLines, listText}
 use Rattle.text.specs.Replies.{Reply, text, listReply, slicesReply}
 use Rattle.text.specs.Calls.{answered, called}
 use Rattle.text.specs.declared.Answer.{Answer}

@@ -9,19 +9,19 @@ use mathlib.Core.List.{List}
 use Prim.Native.Nat.{ℕ}
 use lib.ListN.{getD, take, replicate}
 use lib.Seq.{sets}
-use Rattle.causes.specs.declared.Refusal.{Refusal}
-use Rattle.slices.specs.declared.TestSlice.{TestSlice}
-use Rattle.keys.specs.Keys.{rank}
-use Rattle.keys.specs.declared.Key.{Key}
-use Rattle.keys.specs.declared.Key.the-variants as key
-use Rattle.reading.specs.Reading.{readingOf}
-use Rattle.reading.specs.Said.{masksOf, rowsOf, rowBitsOf, numberFor}
-use Rattle.reading.specs.Code.{keptAll}
-use Rattle.reading.specs.declared.Kind.{Kind}
-use Rattle.reading.specs.declared.Kind.the-variants as kinds
-use Rattle.reading.specs.declared.Place.{Place}
-use Rattle.reading.specs.declared.Scanned.{Scanned}
-use Rattle.reading.specs.declared.Scanned.the-variants.{Whole, Refused}
+use Rattle.refusal_causes.specs.declared.Refusal.{Refusal}
+use Rattle.machine_slices.specs.declared.TestSlice.{TestSlice}
+use Rattle.text_keys.specs.Keys.{rank}
+use Rattle.text_keys.specs.declared.Key.{Key}
+use Rattle.text_keys.specs.declared.Key.the-variants as key
+use Rattle.text_reading.specs.Reading.{readingOf}
+use Rattle.text_reading.specs.Said.{masksOf, rowsOf, rowBitsOf, numberFor}
+use Rattle.text_reading.specs.Code.{keptAll}
+use Rattle.text_reading.specs.declared.Kind.{Kind}
+use Rattle.text_reading.specs.declared.Kind.the-variants as kinds
+use Rattle.text_reading.specs.declared.Place.{Place}
+use Rattle.text_reading.specs.declared.Scanned.{Scanned}
+use Rattle.text_reading.specs.declared.Scanned.the-variants.{Whole, Refused}
 use Rattle.text.specs.Replies.{encoded, expanded, sheetReply, seedListReply, concluded, encodeReply, expandReply}
 use Rattle.text.specs.Calls.{called, encodeCall, expandCall}
 use Rattle.text.specs.declared.Answer.{Answer}

@@ -10,19 +10,19 @@ use Prim.Native.Nat.{ℕ, _≤_}
 use native.Mathlib.Omega.{arith}
 use lib.ListN.{length, getD, take, drop, replicate, length-take, length-replicate, getD-replicate}
 use lib.Seq.{sets, length-sets, take-append-seam}
-use Rattle.keys.specs.Keys.{rank}
-use Rattle.keys.specs.declared.Key.{Key}
-use Rattle.reading.specs.Reading.{readingOf}
-use Rattle.reading.specs.Said.{keyIs, picked, masksOf, rowsOf, rowBitsOf, lastOr}
-use Rattle.reading.specs.Code.{keptAll}
-use Rattle.reading.specs.declared.Entry.{Entry}
-use Rattle.reading.specs.declared.Kind.{Kind}
-use Rattle.reading.specs.declared.Place.{Place}
-use Rattle.reading.specs.declared.Scanned.{Scanned}
-use Rattle.reading.specs.declared.Scanned.the-variants.{Whole}
-use Rattle.reading.proofs.Counting.{read-counts}
-use Rattle.reading.proofs.Heads.{rank-lt, kept-last}
-use Rattle.writing.proofs.Storing.{sets-front}
+use Rattle.text_keys.specs.Keys.{rank}
+use Rattle.text_keys.specs.declared.Key.{Key}
+use Rattle.text_reading.specs.Reading.{readingOf}
+use Rattle.text_reading.specs.Said.{keyIs, picked, masksOf, rowsOf, rowBitsOf, lastOr}
+use Rattle.text_reading.specs.Code.{keptAll}
+use Rattle.text_reading.specs.declared.Entry.{Entry}
+use Rattle.text_reading.specs.declared.Kind.{Kind}
+use Rattle.text_reading.specs.declared.Place.{Place}
+use Rattle.text_reading.specs.declared.Scanned.{Scanned}
+use Rattle.text_reading.specs.declared.Scanned.the-variants.{Whole}
+use Rattle.text_reading.proofs.Counting.{read-counts}
+use Rattle.text_reading.proofs.Heads.{rank-lt, kept-last}
+use Rattle.text_writing.proofs.Storing.{sets-front}
 
 -- The front of a list that was filled.
 filled-front : (n : ℕ) (xs old : List ℕ) → length xs ≡ n → n ≤ length old → take n (sets old 0 xs) ≡ xs

@@ -6,20 +6,20 @@
 use mathlib.Core.Path.{_≡_, refl}
 use mathlib.Core.List.{List}
 use Prim.Native.Nat.{ℕ}
-use Rattle.causes.specs.declared.Cause.{Cause}
-use Rattle.causes.specs.declared.Written.{Written}
-use Rattle.causes.specs.declared.Written.the-variants as written
-use Rattle.causes.specs.Sheet.{refusalOf, OnSheet}
-use Rattle.causes.proofs.Sheet.{on-sheet}
-use Rattle.register.specs.declared.Settings.{Settings}
+use Rattle.refusal_causes.specs.declared.Cause.{Cause}
+use Rattle.refusal_causes.specs.declared.Written.{Written}
+use Rattle.refusal_causes.specs.declared.Written.the-variants as written
+use Rattle.refusal_causes.specs.Sheet.{refusalOf, OnSheet}
+use Rattle.refusal_causes.proofs.Sheet.{on-sheet}
+use Rattle.machine_register.specs.declared.Settings.{Settings}
 use Rattle.encoder.specs.declared.Encoded.{Encoded}
 use Rattle.encoder.specs.declared.Encoded.the-variants as encoding
-use Rattle.lines.specs.declared.LineCause.{LineCause}
-use Rattle.reading.specs.Reading.{causeOf, refusedAt}
-use Rattle.reading.specs.declared.Kind.the-variants as kinds
-use Rattle.reading.specs.declared.Scanned.{Scanned}
-use Rattle.reading.specs.declared.Scanned.the-variants as scanned
-use Rattle.reading.proofs.Refusals.{EndsBy, reading-refused}
+use Rattle.text_lines.specs.declared.LineCause.{LineCause}
+use Rattle.text_reading.specs.Reading.{causeOf, refusedAt}
+use Rattle.text_reading.specs.declared.Kind.the-variants as kinds
+use Rattle.text_reading.specs.declared.Scanned.{Scanned}
+use Rattle.text_reading.specs.declared.Scanned.the-variants as scanned
+use Rattle.text_reading.proofs.Refusals.{EndsBy, reading-refused}
 use Rattle.text.specs.Replies.{Reply, RefusedBy, listReply, slicesReply, encoded, expanded, sheetReply, seedListReply, concluded, encodeReply, expandReply}
 
 module _ (P : ℕ → Type 0) where

@@ -16,34 +16,34 @@ use native.Mathlib.Omega.{arith}
 use lib.Dec.{eqb}
 use lib.Seq.{length-take-le}
 use lib.ListN.{length, take, drop, length-append, length-drop, length-take}
-use Rattle.causes.specs.declared.Cause.the-variants.{SlicesIn, Total}
-use Rattle.causes.specs.declared.Written.{Written}
-use Rattle.causes.specs.declared.Written.the-variants as written
-use Rattle.causes.specs.Outcome.{Outcome, refuse, fill}
-use Rattle.causes.proofs.Outcome.{fill-whole, Full, fill-cases}
-use Rattle.register.specs.declared.Settings.{Settings}
-use Rattle.register.specs.Machine.{Machine, machine}
-use Rattle.slices.specs.declared.TestSlice.{TestSlice}
-use Rattle.slices.specs.Slices.{paired}
-use Rattle.checks.specs.Order.{judged}
-use Rattle.checks.specs.Calls.{cubesFaults, listFaults}
-use Rattle.checks.specs.declared.Verdict.{Verdict}
-use Rattle.checks.specs.declared.Verdict.the-variants as verdict
-use Rattle.cutting.specs.Greedy.{Plan, done, stuck}
+use Rattle.refusal_causes.specs.declared.Cause.the-variants.{SlicesIn, Total}
+use Rattle.refusal_causes.specs.declared.Written.{Written}
+use Rattle.refusal_causes.specs.declared.Written.the-variants as written
+use Rattle.refusal_causes.specs.Outcome.{Outcome, refuse, fill}
+use Rattle.refusal_causes.proofs.Outcome.{fill-whole, Full, fill-cases}
+use Rattle.machine_register.specs.declared.Settings.{Settings}
+use Rattle.machine_register.specs.Machine.{Machine, machine}
+use Rattle.machine_slices.specs.declared.TestSlice.{TestSlice}
+use Rattle.machine_slices.specs.Slices.{paired}
+use Rattle.refusal_checks.specs.Order.{judged}
+use Rattle.refusal_checks.specs.Calls.{cubesFaults, listFaults}
+use Rattle.refusal_checks.specs.declared.Verdict.{Verdict}
+use Rattle.refusal_checks.specs.declared.Verdict.the-variants as verdict
+use Rattle.theory_cutting.specs.Greedy.{Plan, done, stuck}
 use Rattle.stop.specs.Steps.{stopFor}
-use Rattle.covering.specs.Rules.{Rules, rules}
+use Rattle.theory_covering.specs.Rules.{Rules, rules}
 use Rattle.expander.specs.Expanding.{Walk, ran, failed, totalled, expanding, expandList}
 use Rattle.encoder.specs.Encoding.{CubesOutcome, planned, encoding, withStop, cubesEncoding, encodeCubes}
 use Rattle.encoder.specs.declared.Encoded.{Encoded}
 use Rattle.encoder.specs.declared.Encoded.the-variants as encodings
-use Rattle.reading.specs.Reading.{readingOf}
-use Rattle.reading.specs.declared.Kind.the-variants as kinds
-use Rattle.reading.specs.declared.Place.{Place}
-use Rattle.reading.specs.declared.Scanned.{Scanned}
-use Rattle.reading.specs.declared.Scanned.the-variants as scanned
-use Rattle.reading.proofs.Counting.{read-counts}
-use Rattle.writing.specs.Writing.{refusedText}
-use Rattle.writing.proofs.Lengths.{slices-bound, refused-length, list-length}
+use Rattle.text_reading.specs.Reading.{readingOf}
+use Rattle.text_reading.specs.declared.Kind.the-variants as kinds
+use Rattle.text_reading.specs.declared.Place.{Place}
+use Rattle.text_reading.specs.declared.Scanned.{Scanned}
+use Rattle.text_reading.specs.declared.Scanned.the-variants as scanned
+use Rattle.text_reading.proofs.Counting.{read-counts}
+use Rattle.text_writing.specs.Writing.{refusedText}
+use Rattle.text_writing.proofs.Lengths.{slices-bound, refused-length, list-length}
 use Rattle.text.specs.Replies.{Reply, text, refused, lent, listReply, slicesReply, sheetReply, seedListReply, concluded, encodeReply, expandReply, printed, encodeText, expandText}
 use Rattle.text.specs.Replies.{encoded as encodedOf, expanded as expandedOf}
 use Rattle.text.specs.Calls.{answered, called, encodeCall, expandCall, Shown, bytesOf, shown}

@@ -8,11 +8,11 @@
 --     shown a out         the printing of an answer from its buffer: the text that is there, or the refusal
 use mathlib.Core.List.{List}
 use Prim.Native.Nat.{ℕ}
-use Rattle.causes.specs.declared.Written.{Written}
-use Rattle.causes.specs.declared.Written.the-variants as written
-use Rattle.causes.specs.Sheet.{refusalOf}
-use Rattle.causes.specs.Outcome.{Outcome, fill}
-use Rattle.writing.specs.Writing.{refusedText}
+use Rattle.refusal_causes.specs.declared.Written.{Written}
+use Rattle.refusal_causes.specs.declared.Written.the-variants as written
+use Rattle.refusal_causes.specs.Sheet.{refusalOf}
+use Rattle.refusal_causes.specs.Outcome.{Outcome, fill}
+use Rattle.text_writing.specs.Writing.{refusedText}
 use Rattle.text.specs.Replies.{Reply, text, refused, encodeReply, expandReply}
 use Rattle.text.specs.declared.Answer.{Answer}
 use Rattle.text.specs.declared.Answer.the-variants as answers

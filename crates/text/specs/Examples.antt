@@ -11,34 +11,34 @@ use Prim.Native.Nat.{ℕ, zero, suc}
 use Prim.Native.String.{String}
 use lib.ListN.{replicate}
 use lib.Count.{ones, onesIn}
-use Rattle.bounded.specs.Bounded.{within, any, leastBelow, lastBelow}
-use Rattle.gf2.specs.Words.{digit, odd, beyond}
-use Rattle.causes.specs.Outcome.{refuse, fill}
-use Rattle.register.specs.Register.{step, badRegister}
-use Rattle.register.specs.Chains.{slice, badCount, badMask, badChains}
-use Rattle.slices.specs.Slices.{agrees, shows, paired, badSlice, badSlices, badStop}
-use Rattle.checks.specs.Lengths.{badSet, badCubes, badList}
-use Rattle.checks.specs.Order.{tests, firstOf, judged}
-use Rattle.checks.specs.Calls.{cubesFaults, listFaults}
-use Rattle.cutting.specs.Greedy.{reach, hop, ends, greedy}
+use Rattle.words_bounded.specs.Bounded.{within, any, leastBelow, lastBelow}
+use Rattle.words_gf2.specs.Words.{digit, odd, beyond}
+use Rattle.refusal_causes.specs.Outcome.{refuse, fill}
+use Rattle.machine_register.specs.Register.{step, badRegister}
+use Rattle.machine_register.specs.Chains.{slice, badCount, badMask, badChains}
+use Rattle.machine_slices.specs.Slices.{agrees, shows, paired, badSlice, badSlices, badStop}
+use Rattle.refusal_checks.specs.Lengths.{badSet, badCubes, badList}
+use Rattle.refusal_checks.specs.Order.{tests, firstOf, judged}
+use Rattle.refusal_checks.specs.Calls.{cubesFaults, listFaults}
+use Rattle.theory_cutting.specs.Greedy.{reach, hop, ends, greedy}
 use Rattle.stop.specs.Steps.{filter, count, better, choice, settle, keep, setBy, advance, stage, ended, stopFor}
-use Rattle.covering.specs.Covering.{fits, quiet, covers, seedOf}
-use Rattle.covering.specs.Windows.{before, far, placed, closes, seedAt, ok}
+use Rattle.theory_covering.specs.Covering.{fits, quiet, covers, seedOf}
+use Rattle.theory_covering.specs.Windows.{before, far, placed, closes, seedAt, ok}
 use Rattle.expander.specs.Run.{slicesOf, firstStop, ending, delivers}
 use Rattle.expander.specs.Expanding.{after, walk, totalled, expanding, expandList}
 use Rattle.encoder.specs.Encoding.{seedsOf, planned, encoding, stopped, withStop, cubesEncoding, encodeCubes}
-use Rattle.keys.specs.Bytes.{bytes, starts}
-use Rattle.keys.specs.Keys.{name, keyOf, rank, same, notation, longest}
-use Rattle.lines.specs.Numbers.{worth, digits, leadingZero, number}
-use Rattle.lines.specs.Characters.{isCharacter, specifiedAt, bitAt, inFront, rowOf}
-use Rattle.lines.specs.Form.{numbered, sliced, characters, valued, keyed, named, formed}
-use Rattle.reading.specs.Text.{split}
-use Rattle.reading.specs.Order.{isRow, inOrder, outOfRange, rangeCause, tested, ranged, saying, afterChains, afterMask, moved, mayEnd}
-use Rattle.reading.specs.Reading.{causeOf, refusedAt, takenOf, refusalOfLine, endOf, reading, readingOf}
-use Rattle.reading.specs.Said.{picked, lastOr}
-use Rattle.writing.specs.Numerals.{glyph, lastDigits, numeral, character}
-use Rattle.writing.specs.Numerals.{characters as charactersOf}
-use Rattle.writing.specs.Writing.{numberLine, numberLines, sliceLine, sliceLines, headText, listText, refusedText}
+use Rattle.text_keys.specs.Bytes.{bytes, starts}
+use Rattle.text_keys.specs.Keys.{name, keyOf, rank, same, notation, longest}
+use Rattle.text_lines.specs.Numbers.{worth, digits, leadingZero, number}
+use Rattle.text_lines.specs.Characters.{isCharacter, specifiedAt, bitAt, inFront, rowOf}
+use Rattle.text_lines.specs.Form.{numbered, sliced, characters, valued, keyed, named, formed}
+use Rattle.text_reading.specs.Text.{split}
+use Rattle.text_reading.specs.Order.{isRow, inOrder, outOfRange, rangeCause, tested, ranged, saying, afterChains, afterMask, moved, mayEnd}
+use Rattle.text_reading.specs.Reading.{causeOf, refusedAt, takenOf, refusalOfLine, endOf, reading, readingOf}
+use Rattle.text_reading.specs.Said.{picked, lastOr}
+use Rattle.text_writing.specs.Numerals.{glyph, lastDigits, numeral, character}
+use Rattle.text_writing.specs.Numerals.{characters as charactersOf}
+use Rattle.text_writing.specs.Writing.{numberLine, numberLines, sliceLine, sliceLines, headText, listText, refusedText}
 use Rattle.text.specs.Replies.{listReply, slicesReply, encoded, expanded, sheetReply, seedListReply, concluded, encodeReply, expandReply, printed, encodeText, expandText}
 use Rattle.text.specs.Calls.{TextOutcome, answered, called, encodeCall, expandCall}
 use Rattle.text.specs.declared.Answer.{Answer}

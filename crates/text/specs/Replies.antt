@@ -14,27 +14,27 @@
 use mathlib.Core.List.{List}
 use Prim.Native.Nat.{ℕ}
 use lib.ListN.{length, take, replicate}
-use Rattle.causes.specs.declared.Refusal.{Refusal}
-use Rattle.causes.specs.declared.Written.{Written}
-use Rattle.causes.specs.declared.Written.the-variants as written
-use Rattle.causes.specs.Sheet.{refusalOf}
-use Rattle.causes.specs.Outcome.{Outcome}
-use Rattle.register.specs.declared.Settings.{Settings}
-use Rattle.register.specs.Machine.{base}
-use Rattle.slices.specs.declared.TestSlice.{TestSlice}
-use Rattle.checks.specs.Lengths.{mostSlices}
+use Rattle.refusal_causes.specs.declared.Refusal.{Refusal}
+use Rattle.refusal_causes.specs.declared.Written.{Written}
+use Rattle.refusal_causes.specs.declared.Written.the-variants as written
+use Rattle.refusal_causes.specs.Sheet.{refusalOf}
+use Rattle.refusal_causes.specs.Outcome.{Outcome}
+use Rattle.machine_register.specs.declared.Settings.{Settings}
+use Rattle.machine_register.specs.Machine.{base}
+use Rattle.machine_slices.specs.declared.TestSlice.{TestSlice}
+use Rattle.refusal_checks.specs.Lengths.{mostSlices}
 use Rattle.expander.specs.Expanding.{expandList}
 use Rattle.encoder.specs.Encoding.{CubesOutcome, encodeCubes}
 use Rattle.encoder.specs.declared.Encoded.{Encoded}
 use Rattle.encoder.specs.declared.Encoded.the-variants as encoding
-use Rattle.keys.specs.declared.Key.the-variants as key
-use Rattle.reading.specs.Reading.{readingOf}
-use Rattle.reading.specs.Said.{masksOf, rowsOf, rowBitsOf, numberFor, sliceFor}
-use Rattle.reading.specs.declared.Entry.{Entry}
-use Rattle.reading.specs.declared.Kind.the-variants as kinds
-use Rattle.reading.specs.declared.Scanned.{Scanned}
-use Rattle.reading.specs.declared.Scanned.the-variants as scanned
-use Rattle.writing.specs.Writing.{sliceLines, listText, refusedText}
+use Rattle.text_keys.specs.declared.Key.the-variants as key
+use Rattle.text_reading.specs.Reading.{readingOf}
+use Rattle.text_reading.specs.Said.{masksOf, rowsOf, rowBitsOf, numberFor, sliceFor}
+use Rattle.text_reading.specs.declared.Entry.{Entry}
+use Rattle.text_reading.specs.declared.Kind.the-variants as kinds
+use Rattle.text_reading.specs.declared.Scanned.{Scanned}
+use Rattle.text_reading.specs.declared.Scanned.the-variants as scanned
+use Rattle.text_writing.specs.Writing.{sliceLines, listText, refusedText}
 
 pub data Reply : Type 0 where
   text : List ℕ → ℕ → Reply

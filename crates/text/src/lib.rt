@@ -1,16 +1,16 @@
 // The text calls (document 01, "Sheet and seed list"): from the bytes of a sheet to those of its seed list, and from a seed list to slices.
-use causes::Refusal;
-use causes::Written;
 use encoder::Encoded;
-use keys::Key;
-use reading::Kind;
-use reading::Scanned;
-use slices::TestSlice;
+use machine_slices::TestSlice;
+use refusal_causes::Refusal;
+use refusal_causes::Written;
+use text_keys::Key;
+use text_reading::Kind;
+use text_reading::Scanned;
 ghost use mathlib.Core.Path.{_≡_};
 ghost use Prim.Native.Nat.{_≤_};
 ghost use lib.ListN.{length, getD};
-ghost use Rattle.register.specs.Machine.{base};
-ghost use Rattle.keys.specs.Keys.{rank};
+ghost use Rattle.machine_register.specs.Machine.{base};
+ghost use Rattle.text_keys.specs.Keys.{rank};
 ghost use Rattle.text.specs.Replies.{listReply, slicesReply, encoded, expanded};
 ghost use Rattle.text.specs.Calls.{answered as answeredOf, called, encodeCall, expandCall, bytesOf, shown};
 
@@ -26,7 +26,7 @@ fn answered(entries: usize, written: Written) -> Answer
 {
     match written {
         Written::Count(bytes) => Answer::Text(bytes, entries),
-        Written::Refused(cause) => Answer::Refused(causes::refusal_of(cause)),
+        Written::Refused(cause) => Answer::Refused(refusal_causes::refusal_of(cause)),
     }
 }
 
@@ -46,8 +46,8 @@ fn reply_list(
 {
     match encoded {
         Encoded::Seeds(stop, n) => {
-            let count = bounded::lesser(n, seeds.len());
-            let written = writing::write_list(
+            let count = words_bounded::lesser(n, seeds.len());
+            let written = text_writing::write_list(
                 out,
                 cells,
                 taps,
@@ -58,7 +58,7 @@ fn reply_list(
             );
             answered(n, written)
         }
-        Encoded::Refused(cause) => Answer::Refused(causes::refusal_of(cause)),
+        Encoded::Refused(cause) => Answer::Refused(refusal_causes::refusal_of(cause)),
     }
 }
 
@@ -70,11 +70,11 @@ fn reply_slices(chains: usize, slices: &[u64], written: Written, out: &mut [u8])
 {
     match written {
         Written::Count(n) => {
-            let count = bounded::lesser(n, slices.len());
-            let lines = writing::write_slices(out, chains, &slices[..count]);
+            let count = words_bounded::lesser(n, slices.len());
+            let lines = text_writing::write_slices(out, chains, &slices[..count]);
             answered(n, lines)
         }
-        Written::Refused(cause) => Answer::Refused(causes::refusal_of(cause)),
+        Written::Refused(cause) => Answer::Refused(refusal_causes::refusal_of(cause)),
     }
 }
 
@@ -92,7 +92,7 @@ fn encode_said(
     ensures answer { λ r. ⌜ r ≡ called (encoded cells taps (now (masks .entry)) depth (now (specified .entry)) (now (bits .entry))) (now (out .entry)) .answer ⌝ }
     ensures buffer { λ _. ⌜ now (out .exit) ≡ called (encoded cells taps (now (masks .entry)) depth (now (specified .entry)) (now (bits .entry))) (now (out .entry)) .buffer ⌝ }
 {
-    let mut seeds = [0u64; checks::MOST_SLICES];
+    let mut seeds = [0u64; refusal_checks::MOST_SLICES];
     let encoded = encoder::encode_cubes(cells, taps, masks, depth, specified, bits, &mut seeds);
     reply_list(cells, taps, masks, specified.len(), &seeds, encoded, out)
 }
@@ -111,7 +111,7 @@ fn expand_said(
     ensures answer { λ r. ⌜ r ≡ called (expanded cells taps (now (masks .entry)) stop slices (now (seeds .entry))) (now (out .entry)) .answer ⌝ }
     ensures buffer { λ _. ⌜ now (out .exit) ≡ called (expanded cells taps (now (masks .entry)) stop slices (now (seeds .entry))) (now (out .entry)) .buffer ⌝ }
 {
-    let mut values = [0u64; checks::MOST_SLICES];
+    let mut values = [0u64; refusal_checks::MOST_SLICES];
     let written = expander::expand_list(cells, taps, masks, stop, slices, seeds, &mut values);
     reply_slices(masks.len(), &values, written, out)
 }
@@ -121,7 +121,7 @@ fn number(numbers: &[u64], key: Key) -> u64
     requires { ⌜ length (now numbers) ≡ 9 ⌝ }
     ensures { λ r. ⌜ r ≡ getD (now (numbers .entry)) (rank key) 0 ⌝ }
 {
-    numbers[keys::rank(key)]
+    numbers[text_keys::rank(key)]
 }
 
 // Encodes a sheet into a lent buffer: the bytes of its seed list and how many seeds it has, or the refusal.
@@ -131,10 +131,10 @@ pub fn encode_text(text: &[u8], out: &mut [u8]) -> Answer
 {
     let mut heads = [0u64; 9];
     let mut tails = [0u64; 9];
-    let mut masks = [0u64; register::MOST_CHAINS];
-    let mut firsts = [0u64; checks::MOST_SLICES];
-    let mut seconds = [0u64; checks::MOST_SLICES];
-    match reading::scan(
+    let mut masks = [0u64; machine_register::MOST_CHAINS];
+    let mut firsts = [0u64; refusal_checks::MOST_SLICES];
+    let mut seconds = [0u64; refusal_checks::MOST_SLICES];
+    match text_reading::scan(
         Kind::Sheet,
         text,
         &mut heads,
@@ -163,10 +163,10 @@ pub fn expand_text(text: &[u8], out: &mut [u8]) -> Answer
 {
     let mut heads = [0u64; 9];
     let mut tails = [0u64; 9];
-    let mut masks = [0u64; register::MOST_CHAINS];
-    let mut firsts = [0u64; checks::MOST_SLICES];
-    let mut seconds = [0u64; checks::MOST_SLICES];
-    match reading::scan(
+    let mut masks = [0u64; machine_register::MOST_CHAINS];
+    let mut firsts = [0u64; refusal_checks::MOST_SLICES];
+    let mut seconds = [0u64; refusal_checks::MOST_SLICES];
+    match text_reading::scan(
         Kind::SeedList,
         text,
         &mut heads,
@@ -211,6 +211,6 @@ pub fn print(answer: Answer, out: &mut [u8]) -> usize
 {
     match answer {
         Answer::Text(bytes, _) => bytes,
-        Answer::Refused(refusal) => bytes_of(writing::write_refusal(out, refusal)),
+        Answer::Refused(refusal) => bytes_of(text_writing::write_refusal(out, refusal)),
     }
 }

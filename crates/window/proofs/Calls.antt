@@ -12,22 +12,22 @@ use Prim.Native.Nat.{ℕ, _*_, _≤_}
 use native.Mathlib.Nat.{mul-le-mul-left}
 use native.Mathlib.Omega.{arith}
 use lib.ListN.{length, length-append}
-use Rattle.register.specs.declared.Settings.{Settings}
-use Rattle.register.specs.Register.{badRegister}
-use Rattle.register.specs.Chains.{badChains}
-use Rattle.slices.specs.declared.TestSlice.{TestSlice}
-use Rattle.slices.specs.Slices.{badStop}
+use Rattle.machine_register.specs.declared.Settings.{Settings}
+use Rattle.machine_register.specs.Register.{badRegister}
+use Rattle.machine_register.specs.Chains.{badChains}
+use Rattle.machine_slices.specs.declared.TestSlice.{TestSlice}
+use Rattle.machine_slices.specs.Slices.{badStop}
 use Rattle.search.specs.declared.Found.the-variants.{State, Nothing}
 use Rattle.search.specs.declared.Pattern.{Pattern}
 use Rattle.search.specs.Search.{foundOf}
 use Rattle.search.proofs.Finding.{state-some, nothing-none}
-use Rattle.table.specs.Rows.{rowsOf}
-use Rattle.table.specs.Chosen.{chosen}
-use Rattle.table.proofs.Pulling.{rows-length, rows-row}
-use Rattle.covering.specs.Single.{lowestOr7}
-use Rattle.covering.specs.declared.Seed.the-variants.{Lowest, Refused}
+use Rattle.search_table.specs.Rows.{rowsOf}
+use Rattle.search_table.specs.Chosen.{chosen}
+use Rattle.search_table.proofs.Pulling.{rows-length, rows-row}
+use Rattle.theory_covering.specs.Single.{lowestOr7}
+use Rattle.theory_covering.specs.declared.Seed.the-variants.{Lowest, Refused}
 use Rattle.window.specs.Ready.{patternOf, Tabled, Ready}
-use Rattle.causes.specs.declared.Cause.the-variants as cause
+use Rattle.refusal_causes.specs.declared.Cause.the-variants as cause
 
 pub table-room : (r c : ℕ) → r ≤ 257 → c ≤ 64 → r * c ≤ 16448
 table-room r c h l = omega (arith, mul-le-mul-left {m = c} {n = 64} r l)

@@ -9,8 +9,8 @@ use native.Mathlib.Nat.{mul-le-mul-left}
 use native.Mathlib.Omega.{arith}
 use lib.ListN.{length, take}
 use lib.Seq.{take-at}
-use Rattle.table.specs.Chosen.{chosen}
-use Rattle.table.proofs.Choosing.{chosen-few}
+use Rattle.search_table.specs.Chosen.{chosen}
+use Rattle.search_table.proofs.Choosing.{chosen-few}
 
 pub front-chosen : (p : ℕ) (masks out rest : List ℕ) (n : ℕ) → n ≡ length (chosen p masks) → out ≡ chosen p masks ++ rest → take n out ≡ chosen p masks
 front-chosen p masks out rest n e q = rw (e, q) (take-at (chosen p masks) rest (length (chosen p masks)) refl)

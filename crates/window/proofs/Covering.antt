@@ -17,27 +17,27 @@ use lib.Bits.{bitAnd, and-step, and-zero-r, xor-zero-r}
 use lib.Dec.{eqb}
 use lib.ListN.{length, length-map}
 use borrow.Author.Tests.{eqb-true, eq-eqb, not-true}
-use Rattle.bounded.specs.Bounded.{any}
-use Rattle.bounded.proofs.Tests.{both, and-yes, alike, neither, eq-or-not}
-use Rattle.gf2.specs.Words.{odd}
-use Rattle.gf2.proofs.Digits.{no-beyond}
-use Rattle.gf2.proofs.Parity.{odd-lt}
-use Rattle.register.specs.declared.Settings.{Settings}
-use Rattle.register.specs.Register.{steps, pulls}
-use Rattle.register.specs.Chains.{slice, badMask}
-use Rattle.register.specs.Machine.{Machine, machine}
-use Rattle.register.proofs.Steps.{pulls-law}
-use Rattle.register.proofs.Causes.{cells-within, taps-below, chains-masked}
-use Rattle.slices.specs.declared.TestSlice.{TestSlice}
-use Rattle.slices.specs.Slices.{agrees, shows, badSlice}
-use Rattle.slices.proofs.Formed.{Formed, slice-formed, stop-slice}
+use Rattle.words_bounded.specs.Bounded.{any}
+use Rattle.words_bounded.proofs.Tests.{both, and-yes, alike, neither, eq-or-not}
+use Rattle.words_gf2.specs.Words.{odd}
+use Rattle.words_gf2.proofs.Digits.{no-beyond}
+use Rattle.words_gf2.proofs.Parity.{odd-lt}
+use Rattle.machine_register.specs.declared.Settings.{Settings}
+use Rattle.machine_register.specs.Register.{steps, pulls}
+use Rattle.machine_register.specs.Chains.{slice, badMask}
+use Rattle.machine_register.specs.Machine.{Machine, machine}
+use Rattle.machine_register.proofs.Steps.{pulls-law}
+use Rattle.machine_register.proofs.Causes.{cells-within, taps-below, chains-masked}
+use Rattle.machine_slices.specs.declared.TestSlice.{TestSlice}
+use Rattle.machine_slices.specs.Slices.{agrees, shows, badSlice}
+use Rattle.machine_slices.proofs.Formed.{Formed, slice-formed, stop-slice}
 use Rattle.search.specs.declared.Pattern.{Pattern}
 use Rattle.search.specs.Clauses.{row, reads, shown, clear}
 use Rattle.search.proofs.Reading.{clear-at, none-clear}
-use Rattle.table.specs.Chosen.{chosen, packed}
-use Rattle.table.proofs.Choosing.{chosen-take, chosen-skip, chosen-map}
-use Rattle.table.proofs.Packing.{packed-take, packed-skip}
-use Rattle.covering.specs.Covering.{fits, quiet, covers}
+use Rattle.search_table.specs.Chosen.{chosen, packed}
+use Rattle.search_table.proofs.Choosing.{chosen-take, chosen-skip, chosen-map}
+use Rattle.search_table.proofs.Packing.{packed-take, packed-skip}
+use Rattle.theory_covering.specs.Covering.{fits, quiet, covers}
 use Rattle.window.specs.Ready.{Ready}
 use Rattle.window.specs.Code.{meets, allMeet, allowed, closed}
 use Rattle.window.proofs.Meeting.{meets-take, meets-skip}

@@ -17,15 +17,15 @@ use native.Mathlib.Numerals.{add-one}
 use native.Mathlib.Omega.{arith}
 use lib.ListN.{getD, length, take, drop}
 use lib.Seq.{take-all}
-use Rattle.bounded.proofs.Tests.{clash, fails, both, and-yes}
-use Rattle.space.specs.declared.Space.{Space}
-use Rattle.space.specs.Space.{Member}
+use Rattle.words_bounded.proofs.Tests.{clash, fails, both, and-yes}
+use Rattle.search_space.specs.declared.Space.{Space}
+use Rattle.search_space.specs.Space.{Member}
 use Rattle.search.specs.Clauses.{row}
 use Rattle.search.proofs.Reading.{row-fits}
-use Rattle.slices.specs.declared.TestSlice.{TestSlice}
-use Rattle.slices.specs.Slices.{paired, badSlices}
-use Rattle.slices.proofs.Causes.{sliceAt}
-use Rattle.slices.proofs.Formed.{slices-length, slices-at, slices-each}
+use Rattle.machine_slices.specs.declared.TestSlice.{TestSlice}
+use Rattle.machine_slices.specs.Slices.{paired, badSlices}
+use Rattle.machine_slices.proofs.Causes.{sliceAt}
+use Rattle.machine_slices.proofs.Formed.{slices-length, slices-at, slices-each}
 use Rattle.window.specs.Code.{meets, allMeet, closed, allowed, Narrows, Most}
 use Rattle.window.proofs.Narrowing.{narrows-none, narrows-same, narrows-then}
 

@@ -17,12 +17,12 @@ use Prim.Native.Nat.{ℕ, _+_, _-_, _*_, _/_, _≤_, _<_, min}
 use native.Mathlib.Omega.{arith}
 use lib.ListN.{getD, length, take, drop, set, length-drop, length-set, length-take}
 use lib.Seq.{ext-getD, length-take-le, take-take, getD-drop, getD-take, getD-set-same, getD-set-other}
-use Rattle.bounded.proofs.Tests.{eq-or-not, lt-or-le}
-use Rattle.space.specs.declared.Space.{Space}
+use Rattle.words_bounded.proofs.Tests.{eq-or-not, lt-or-le}
+use Rattle.search_space.specs.declared.Space.{Space}
 use Rattle.search.specs.declared.Pattern.{Pattern}
-use Rattle.slices.specs.declared.TestSlice.{TestSlice}
-use Rattle.slices.specs.Slices.{paired, badSlices}
-use Rattle.slices.proofs.Formed.{slices-length, paired-take}
+use Rattle.machine_slices.specs.declared.TestSlice.{TestSlice}
+use Rattle.machine_slices.specs.Slices.{paired, badSlices}
+use Rattle.machine_slices.proofs.Formed.{slices-length, paired-take}
 use Rattle.window.specs.Code.{allMeet, allStates, unitsOf, Narrows, heldVectors, Holds, HeldAt, Held, quietMeet, Most, Grown}
 use Rattle.window.proofs.Fitting.{Fitted, fitted-start, fitted-none, most-end}
 use Rattle.window.proofs.Seeds.{states-complete}

@@ -11,19 +11,19 @@ use Prim.Native.Nat.{ℕ, _+_, _^_, _≤_, _<_}
 use native.Mathlib.Omega.{arith}
 use lib.ListN.{length, take}
 use lib.Seq.{length-take-le}
-use Rattle.bounded.proofs.Tests.{both, clash, fails}
-use Rattle.space.specs.declared.Space.{Space}
-use Rattle.space.specs.Space.{Member}
+use Rattle.words_bounded.proofs.Tests.{both, clash, fails}
+use Rattle.search_space.specs.declared.Space.{Space}
+use Rattle.search_space.specs.Space.{Member}
 use Rattle.search.specs.declared.Pattern.{Pattern}
 use Rattle.search.specs.Clauses.{row, clear}
 use Rattle.search.proofs.Reading.{clear-at, clear-front}
-use Rattle.slices.specs.declared.TestSlice.{TestSlice}
-use Rattle.slices.specs.Slices.{paired, badSlices}
-use Rattle.slices.proofs.Causes.{sliceAt}
-use Rattle.slices.proofs.Formed.{slices-length}
-use Rattle.forcing.specs.Forcing.{forced, forcedVectors}
-use Rattle.forcing.proofs.Forcing.{forced-sound, forced-complete, forced-rising}
-use Rattle.forcing.proofs.Entering.{Entered, forced-left}
+use Rattle.machine_slices.specs.declared.TestSlice.{TestSlice}
+use Rattle.machine_slices.specs.Slices.{paired, badSlices}
+use Rattle.machine_slices.proofs.Causes.{sliceAt}
+use Rattle.machine_slices.proofs.Formed.{slices-length}
+use Rattle.search_forcing.specs.Forcing.{forced, forcedVectors}
+use Rattle.search_forcing.proofs.Forcing.{forced-sound, forced-complete, forced-rising}
+use Rattle.search_forcing.proofs.Entering.{Entered, forced-left}
 use Rattle.window.specs.Code.{meets, allMeet, allStates, unitsOf, Narrows, Keeps, quietMeet, Most}
 use Rattle.window.proofs.Narrowing.{some-member}
 use Rattle.window.proofs.Fitting.{meet-front, meet-at}

@@ -13,10 +13,10 @@ use lib.Dec.{eqb}
 use lib.ListN.{getD, length, drop}
 use lib.Seq.{drop-cons}
 use borrow.Author.Tests.{eq-eqb, ne-eqb}
-use Rattle.bounded.proofs.Tests.{lt-or-le}
-use Rattle.gf2.specs.Words.{odd}
-use Rattle.space.specs.declared.Space.{Space}
-use Rattle.space.specs.Space.{restricted, without}
+use Rattle.words_bounded.proofs.Tests.{lt-or-le}
+use Rattle.words_gf2.specs.Words.{odd}
+use Rattle.search_space.specs.declared.Space.{Space}
+use Rattle.search_space.specs.Space.{restricted, without}
 use Rattle.window.specs.Code.{meets, Narrows}
 use Rattle.window.proofs.Narrowing.{Toward, narrows-none, narrows-same, narrows-then, narrows-restrict}
 

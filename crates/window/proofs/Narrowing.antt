@@ -11,12 +11,12 @@ use mathlib.Core.List.{List}
 use Prim.Native.Nat.{ℕ, _<_}
 use lib.Dec.{eqb}
 use borrow.Author.Tests.{eqb-true, eq-eqb}
-use Rattle.bounded.proofs.Tests.{both, and-yes}
-use Rattle.gf2.specs.Words.{odd}
-use Rattle.space.specs.declared.Space.{Space}
-use Rattle.space.specs.Space.{pivot, without, shifted, restricted, Member}
-use Rattle.space.proofs.Members.{among-is, is-among, among-lowest}
-use Rattle.space.proofs.Restricting.{restrict-sound, restrict-complete, restrict-rising}
+use Rattle.words_bounded.proofs.Tests.{both, and-yes}
+use Rattle.words_gf2.specs.Words.{odd}
+use Rattle.search_space.specs.declared.Space.{Space}
+use Rattle.search_space.specs.Space.{pivot, without, shifted, restricted, Member}
+use Rattle.search_space.proofs.Members.{among-is, is-among, among-lowest}
+use Rattle.search_space.proofs.Restricting.{restrict-sound, restrict-complete, restrict-rising}
 use Rattle.window.specs.Code.{Narrows}
 
 pub narrows-none : (y : Space) (vs : List ℕ) → Narrows (λ s. true) y vs y vs

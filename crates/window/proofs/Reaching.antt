@@ -14,16 +14,16 @@ use native.Mathlib.Omega.{arith}
 use lib.Dec.{ltb}
 use lib.ListN.{length, take, length-take}
 use borrow.Author.Tests.{lt-ltb}
-use Rattle.bounded.proofs.Tests.{clash, fails, both, eq-or-not}
-use Rattle.bounded.proofs.Search.{last-of, last-none}
-use Rattle.register.specs.declared.Settings.{Settings}
-use Rattle.register.specs.Machine.{Machine, machine}
-use Rattle.slices.specs.declared.TestSlice.{TestSlice}
-use Rattle.slices.specs.Slices.{paired, badSlices}
-use Rattle.slices.proofs.Formed.{slices-length, slices-all, slices-take, paired-take}
+use Rattle.words_bounded.proofs.Tests.{clash, fails, both, eq-or-not}
+use Rattle.words_bounded.proofs.Search.{last-of, last-none}
+use Rattle.machine_register.specs.declared.Settings.{Settings}
+use Rattle.machine_register.specs.Machine.{Machine, machine}
+use Rattle.machine_slices.specs.declared.TestSlice.{TestSlice}
+use Rattle.machine_slices.specs.Slices.{paired, badSlices}
+use Rattle.machine_slices.proofs.Formed.{slices-length, slices-all, slices-take, paired-take}
 use Rattle.search.specs.declared.Pattern.{Pattern}
-use Rattle.covering.specs.Covering.{seedOf}
-use Rattle.covering.specs.Windows.{found}
+use Rattle.theory_covering.specs.Covering.{seedOf}
+use Rattle.theory_covering.specs.Windows.{found}
 use Rattle.window.specs.Ready.{Ready}
 use Rattle.window.specs.Longest.{closesAt, seedFor, longest, reachOf}
 use Rattle.window.specs.Code.{quietMeet, Most}

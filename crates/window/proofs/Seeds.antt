@@ -15,24 +15,24 @@ use native.Mathlib.Nat.{suc-mul, mul-le-mul-right, lt-of-lt-of-le}
 use native.Mathlib.Omega.{arith}
 use lib.ListN.{length}
 use lib.Pow.{pow-mono}
-use Rattle.bounded.specs.Bounded.{any}
-use Rattle.bounded.proofs.Tests.{clash, fails, both, and-yes}
-use Rattle.bounded.proofs.Search.{none-of, least-same}
-use Rattle.register.specs.declared.Settings.{Settings}
-use Rattle.register.specs.Machine.{Machine, machine}
-use Rattle.register.proofs.Causes.{cells-within}
-use Rattle.slices.specs.declared.TestSlice.{TestSlice}
-use Rattle.slices.specs.Slices.{badSlice, badSlices, paired}
-use Rattle.slices.proofs.Formed.{slices-length, slices-all}
-use Rattle.space.specs.declared.Space.{Space}
-use Rattle.space.specs.Space.{among, units, Rising, Member}
-use Rattle.space.proofs.Members.{among-is, is-among}
-use Rattle.space.proofs.AllStates.{units-take, units-sound, units-complete, units-rising}
+use Rattle.words_bounded.specs.Bounded.{any}
+use Rattle.words_bounded.proofs.Tests.{clash, fails, both, and-yes}
+use Rattle.words_bounded.proofs.Search.{none-of, least-same}
+use Rattle.machine_register.specs.declared.Settings.{Settings}
+use Rattle.machine_register.specs.Machine.{Machine, machine}
+use Rattle.machine_register.proofs.Causes.{cells-within}
+use Rattle.machine_slices.specs.declared.TestSlice.{TestSlice}
+use Rattle.machine_slices.specs.Slices.{badSlice, badSlices, paired}
+use Rattle.machine_slices.proofs.Formed.{slices-length, slices-all}
+use Rattle.search_space.specs.declared.Space.{Space}
+use Rattle.search_space.specs.Space.{among, units, Rising, Member}
+use Rattle.search_space.proofs.Members.{among-is, is-among}
+use Rattle.search_space.proofs.AllStates.{units-take, units-sound, units-complete, units-rising}
 use Rattle.search.specs.declared.Pattern.{Pattern}
 use Rattle.search.specs.Clauses.{clear}
 use Rattle.search.specs.Search.{foundOf, lowestClear}
-use Rattle.table.specs.Chosen.{chosen}
-use Rattle.covering.specs.Covering.{covers, seedOf}
+use Rattle.search_table.specs.Chosen.{chosen}
+use Rattle.theory_covering.specs.Covering.{covers, seedOf}
 use Rattle.window.specs.Ready.{Tabled, Ready}
 use Rattle.window.specs.Code.{allMeet, closed, allowed, allStates, unitsOf, Narrows, Keeps, quietMeet}
 use Rattle.window.proofs.Narrowing.{some-member}

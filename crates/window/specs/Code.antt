@@ -19,12 +19,12 @@ use mathlib.Core.List.{List, [], _∷_}
 use Prim.Native.Nat.{ℕ, suc, _+_, _-_, _*_, _^_, _/_, _%_, _≤_, _<_}
 use lib.Dec.{eqb}
 use lib.ListN.{drop, getD, length, take}
-use Rattle.gf2.specs.Words.{odd}
-use Rattle.space.specs.declared.Space.{Space}
-use Rattle.space.specs.Space.{units, Member, Rising}
+use Rattle.words_gf2.specs.Words.{odd}
+use Rattle.search_space.specs.declared.Space.{Space}
+use Rattle.search_space.specs.Space.{units, Member, Rising}
 use Rattle.search.specs.Clauses.{row, clear}
 use Rattle.search.specs.declared.Pattern.{Pattern}
-use Rattle.slices.specs.declared.TestSlice.{TestSlice}
+use Rattle.machine_slices.specs.declared.TestSlice.{TestSlice}
 
 unfoldable pub meets : List ℕ → ℕ → ℕ → ℕ → Bool
 meets [] p b s = true

@@ -9,11 +9,11 @@ use mathlib.Core.List.{List}
 use Prim.Native.Nat.{ℕ, suc}
 use lib.Dec.{ltb}
 use lib.ListN.{length, take}
-use Rattle.bounded.specs.Bounded.{lastBelow}
-use Rattle.register.specs.Machine.{Machine}
-use Rattle.slices.specs.declared.TestSlice.{TestSlice}
-use Rattle.covering.specs.Covering.{seedOf}
-use Rattle.covering.specs.Windows.{found}
+use Rattle.words_bounded.specs.Bounded.{lastBelow}
+use Rattle.machine_register.specs.Machine.{Machine}
+use Rattle.machine_slices.specs.declared.TestSlice.{TestSlice}
+use Rattle.theory_covering.specs.Covering.{seedOf}
+use Rattle.theory_covering.specs.Windows.{found}
 use Rattle.window.specs.declared.Window.{Window}
 
 abbrev pub closesAt : Bool → List TestSlice → ℕ → Bool

@@ -7,14 +7,14 @@ use mathlib.Core.Bool.{false}
 use mathlib.Core.List.{List, map}
 use Prim.Native.Nat.{ℕ, _*_, _≤_, _<_}
 use lib.ListN.{length}
-use Rattle.register.specs.declared.Settings.{Settings}
-use Rattle.register.specs.Register.{badRegister, pulls}
-use Rattle.register.specs.Chains.{badChains}
-use Rattle.slices.specs.declared.TestSlice.{TestSlice}
-use Rattle.slices.specs.Slices.{badStop}
+use Rattle.machine_register.specs.declared.Settings.{Settings}
+use Rattle.machine_register.specs.Register.{badRegister, pulls}
+use Rattle.machine_register.specs.Chains.{badChains}
+use Rattle.machine_slices.specs.declared.TestSlice.{TestSlice}
+use Rattle.machine_slices.specs.Slices.{badStop}
 use Rattle.search.specs.declared.Pattern.{Pattern}
 use Rattle.search.specs.Clauses.{row}
-use Rattle.table.specs.Chosen.{chosen, packed}
+use Rattle.search_table.specs.Chosen.{chosen, packed}
 
 abbrev pub patternOf : TestSlice → List ℕ → Pattern
 patternOf stop masks = record {

@@ -1,13 +1,13 @@
 // Forced positions: the members of a space that may be clear in the stop's rows, and how far a window may go by what its rows force.
 use crate::rows::meet_row;
+use machine_slices::TestSlice;
 use search::Pattern;
-use slices::TestSlice;
-use space::Space;
+use search_space::Space;
 ghost use mathlib.Core.Bool.{false};
 ghost use mathlib.Core.Path.{_≡_};
 ghost use Prim.Native.Nat.{_*_, _≤_};
 ghost use lib.ListN.{length, take};
-ghost use Rattle.slices.specs.Slices.{badSlices, paired};
+ghost use Rattle.machine_slices.specs.Slices.{badSlices, paired};
 ghost use Rattle.search.specs.Clauses.{clear};
 ghost use Rattle.window.specs.Code.{Keeps, Most, quietMeet};
 
@@ -25,7 +25,7 @@ fn force_rows(
     let mut kept = space;
     let mut row: usize = 0;
     while row < rows {
-        kept = forcing::force_row(pattern, clauses, row, vectors, kept);
+        kept = search_forcing::force_row(pattern, clauses, row, vectors, kept);
         if !kept.some {
             return kept;
         }
@@ -69,7 +69,7 @@ pub(crate) fn most_quiet(
     requires clauses { ⌜ (cells ≤ 64) × (length (now specified) * pattern .columns ≤ length (now clauses)) ⌝ }
     ensures { λ r. ⌜ Most (quietMeet chains (now (table .entry)) pattern (now (clauses .entry))) (paired (now (specified .entry)) (now (bits .entry))) cells r ⌝ }
 {
-    let mut vectors = space::units();
+    let mut vectors = search_space::units();
     let mut kept = Space {
         lowest: 0,
         free: cells,
@@ -82,7 +82,7 @@ pub(crate) fn most_quiet(
             bits: bits[slice],
         };
         kept = meet_row(&mut vectors, kept, table, chains, slice, test);
-        kept = forcing::force_row(pattern, clauses, slice, &mut vectors, kept);
+        kept = search_forcing::force_row(pattern, clauses, slice, &mut vectors, kept);
         if !kept.some {
             return slice;
         }

@@ -10,33 +10,33 @@ mod lowest;
 mod rows;
 mod spaces;
 
-use causes::Cause;
-use checks::Verdict;
-use covering::Seed;
 use forced::most_quiet;
 use lengths::SHORT_PART;
 use lengths::reach_long;
 use lengths::reach_short;
 use lowest::found_anew;
-use register::Settings;
+use machine_register::Settings;
+use machine_slices::TestSlice;
+use refusal_causes::Cause;
+use refusal_checks::Verdict;
 use search::Found;
 use search::Pattern;
-use slices::TestSlice;
+use theory_covering::Seed;
 ghost use mathlib.Core.Bool.{true, false};
 ghost use mathlib.Core.List.{_++_};
 ghost use mathlib.Core.Option.{Option};
 ghost use mathlib.Core.Path.{_≡_};
 ghost use Prim.Native.Nat.{ℕ, suc, _+_, _*_, _≤_};
 ghost use lib.ListN.{drop, length};
-ghost use Rattle.register.specs.Machine.{base, machine};
-ghost use Rattle.slices.specs.Slices.{badSlices, paired};
-ghost use Rattle.checks.specs.Order.{judged};
-ghost use Rattle.checks.specs.Calls.{windowFaults};
-ghost use Rattle.checks.specs.declared.Verdict.the-variants as verdict;
-ghost use Rattle.covering.specs.Covering.{seedOf};
-ghost use Rattle.covering.specs.Single.{windowSeed, lowestOr7, WindowMeaning};
-ghost use Rattle.table.specs.Rows.{rowsOf};
-ghost use Rattle.table.specs.Chosen.{chosen as chosenOf};
+ghost use Rattle.machine_register.specs.Machine.{base, machine};
+ghost use Rattle.machine_slices.specs.Slices.{badSlices, paired};
+ghost use Rattle.refusal_checks.specs.Order.{judged};
+ghost use Rattle.refusal_checks.specs.Calls.{windowFaults};
+ghost use Rattle.refusal_checks.specs.declared.Verdict.the-variants as verdict;
+ghost use Rattle.theory_covering.specs.Covering.{seedOf};
+ghost use Rattle.theory_covering.specs.Single.{windowSeed, lowestOr7, WindowMeaning};
+ghost use Rattle.search_table.specs.Rows.{rowsOf};
+ghost use Rattle.search_table.specs.Chosen.{chosen as chosenOf};
 ghost use Rattle.search.specs.Search.{foundOf};
 ghost use Rattle.window.specs.Ready.{patternOf, Ready};
 ghost use Rattle.window.specs.Longest.{reachOf};
@@ -64,9 +64,9 @@ pub fn fill_clauses(
     ensures buffer { λ _. ⌜ now (clauses .exit) ≡ rowsOf taps rows (chosenOf (stop .specified) (now (masks .entry))) ++ drop (rows * length (chosenOf (stop .specified) (now (masks .entry)))) (now (clauses .entry)) ⌝ }
 {
     let mut chosen = [0u64; 64];
-    let columns = table::choose(stop.specified, masks, &mut chosen);
-    table::fill(taps, &chosen[..columns], rows, clauses);
-    let bits = table::pack(stop.specified, stop.bits, masks.len());
+    let columns = search_table::choose(stop.specified, masks, &mut chosen);
+    search_table::fill(taps, &chosen[..columns], rows, clauses);
+    let bits = search_table::pack(stop.specified, stop.bits, masks.len());
     Pattern { columns, bits }
 }
 
@@ -151,7 +151,7 @@ fn seed_of(
     let mut clauses = [0u64; MOST_ENTRIES];
     let taps = settings.taps;
     let rows = specified.len() + 1;
-    table::fill(taps, masks, rows, &mut table);
+    search_table::fill(taps, masks, rows, &mut table);
     let pattern = fill_clauses(taps, masks, stop, rows, &mut clauses);
     let found = found_anew(
         settings,
@@ -179,8 +179,8 @@ pub fn window_seed(
     ensures answer { λ r. ⌜ r ≡ windowSeed (base cells taps) (now (masks .entry)) stop (now (specified .entry)) (now (bits .entry)) ⌝ }
     ensures meaning { λ r. ⌜ WindowMeaning (base cells taps) (now (masks .entry)) stop (now (specified .entry)) (now (bits .entry)) r ⌝ }
 {
-    let settings = register::base(cells, taps);
-    let verdict = checks::check_window(settings, masks, stop, specified, bits);
+    let settings = machine_register::base(cells, taps);
+    let verdict = refusal_checks::check_window(settings, masks, stop, specified, bits);
     match verdict {
         Verdict::Refused(cause) => Seed::Refused(cause),
         Verdict::WellFormed => seed_of(settings, masks, stop, specified, bits),

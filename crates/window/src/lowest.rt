@@ -2,18 +2,18 @@
 use crate::forced::force;
 use crate::rows::close;
 use crate::rows::fit;
-use register::Settings;
+use machine_register::Settings;
+use machine_slices::TestSlice;
 use search::Found;
 use search::Pattern;
-use slices::TestSlice;
-use space::Space;
+use search_space::Space;
 ghost use mathlib.Core.Bool.{false};
 ghost use mathlib.Core.Path.{_≡_};
 ghost use Prim.Native.Nat.{suc};
 ghost use lib.ListN.{length, take};
-ghost use Rattle.register.specs.Machine.{machine};
-ghost use Rattle.slices.specs.Slices.{badSlices, paired};
-ghost use Rattle.covering.specs.Covering.{seedOf};
+ghost use Rattle.machine_register.specs.Machine.{machine};
+ghost use Rattle.machine_slices.specs.Slices.{badSlices, paired};
+ghost use Rattle.theory_covering.specs.Covering.{seedOf};
 ghost use Rattle.search.specs.Search.{foundOf};
 ghost use Rattle.window.specs.Ready.{Ready};
 ghost use Rattle.window.specs.Code.{allMeet, allStates, Narrows, unitsOf};
@@ -67,7 +67,7 @@ pub(crate) fn found_anew(
     requires { ⌜ badSlices (length (now masks)) (now specified) (now bits) ≡ false ⌝ }
     ensures { λ r. ⌜ r ≡ foundOf (seedOf (machine settings (now (masks .entry))) stop closing (paired (now (specified .entry)) (now (bits .entry)))) ⌝ }
 {
-    let mut vectors = space::units();
+    let mut vectors = search_space::units();
     let all = Space {
         lowest: 0,
         free: settings.cells,

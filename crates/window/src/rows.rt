@@ -1,11 +1,11 @@
 // The members of a space whose slices agree with test slices, read by the rows of a table: with one slice, with those of a window, and with the stop after it (document 01, "Covering and cutting").
-use slices::TestSlice;
-use space::Space;
+use machine_slices::TestSlice;
+use search_space::Space;
 ghost use mathlib.Core.Bool.{false};
 ghost use mathlib.Core.Path.{_≡_};
 ghost use Prim.Native.Nat.{_+_, _*_, _^_, _<_, _≤_};
 ghost use lib.ListN.{length, take};
-ghost use Rattle.slices.specs.Slices.{badSlices, paired};
+ghost use Rattle.machine_slices.specs.Slices.{badSlices, paired};
 ghost use Rattle.search.specs.Clauses.{row as rowOf};
 ghost use Rattle.window.specs.Code.{allMeet, closed, meets, Narrows};
 
@@ -20,7 +20,7 @@ fn meet(vectors: &mut [u64], space: Space, row: &[u64], specified: u64, bits: u6
     let mut chain: usize = 0;
     while left != 0 {
         if left % 2 == 1 {
-            kept = space::restrict(vectors, kept, row[chain], values % 2);
+            kept = search_space::restrict(vectors, kept, row[chain], values % 2);
         }
         left = left / 2;
         values = values / 2;

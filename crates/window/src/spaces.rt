@@ -1,12 +1,12 @@
 // The spaces of the states that meet the first slices of a part: each is entered once, written at its place and read from there.
 use crate::rows::meet_row;
-use slices::TestSlice;
-use space::Space;
+use machine_slices::TestSlice;
+use search_space::Space;
 ghost use mathlib.Core.Bool.{false};
 ghost use mathlib.Core.Path.{_≡_};
 ghost use Prim.Native.Nat.{ℕ, _+_, _*_, _<_, _≤_};
 ghost use lib.ListN.{getD, length, take};
-ghost use Rattle.slices.specs.Slices.{badSlices, paired};
+ghost use Rattle.machine_slices.specs.Slices.{badSlices, paired};
 ghost use Rattle.window.specs.Code.{allMeet, Grown, heldVectors, Holds};
 
 // The entries of a space that is kept: a lowest member, a number of vectors, and 64 vectors.
@@ -20,7 +20,7 @@ fn store(spaces: &mut [u64], place: usize, space: Space, vectors: &[u64])
     ensures space { λ _. ⌜ Holds (now (spaces .exit)) place (space .lowest) (space .free) (take (space .free) (now (vectors .entry))) ⌝ }
 {
     let free = space.free;
-    let count = bounded::lesser(free, 64);
+    let count = words_bounded::lesser(free, 64);
     spaces[place] = space.lowest;
     spaces[place + 1] = free as u64;
     let first = place + 2;
@@ -37,7 +37,7 @@ pub(crate) fn load(spaces: &[u64], place: usize, free: usize) -> [u64; 64]
     ensures { λ r. ⌜ take free r ≡ heldVectors (now (spaces .entry)) place free ⌝ }
 {
     let mut vectors = [0u64; 64];
-    let count = bounded::lesser(free, 64);
+    let count = words_bounded::lesser(free, 64);
     let first = place + 2;
     let mut vector: usize = 0;
     while vector < count {
@@ -62,7 +62,7 @@ pub(crate) fn grow(
     ensures { λ r. ⌜ Grown (allMeet chains (now (table .entry)) 0) chains (now (table .entry)) (paired (now (specified .entry)) (now (bits .entry))) cells (now (spaces .exit)) r ⌝ }
 {
     let places = spaces.len() / SPACE_ENTRIES;
-    let mut vectors = space::units();
+    let mut vectors = search_space::units();
     let mut kept = Space {
         lowest: 0,
         free: cells,

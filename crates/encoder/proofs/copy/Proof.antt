@@ -5,7 +5,7 @@ use Prim.Native.Nat.{_-_, _≤_}
 use native.Mathlib.Omega.{arith}
 use lib.ListN.{take, drop}
 use borrow.Author.Needs.{needs}
-use Rattle.bounded.proofs.Front.{front-length, front-next, front-end}
+use Rattle.words_bounded.proofs.Front.{front-length, front-next, front-end}
 use Rattle.encoder.proofs.copy.Statement.{statement}
 use Rattle.encoder.proofs.copy.Tie as tie
 

@@ -5,11 +5,11 @@ use native.Mathlib.Omega.{arith}
 use native.Mathlib.Numerals.{add-one}
 use lib.ListN.{length}
 use borrow.Author.Needs.{needs}
-use Rattle.causes.specs.Outcome.{Outcome}
-use Rattle.slices.specs.Slices.{paired}
-use Rattle.slices.proofs.Formed.{slices-length}
-use Rattle.checks.proofs.Lengths.{set-within}
-use Rattle.checks.proofs.Stopped.{set-formed}
+use Rattle.refusal_causes.specs.Outcome.{Outcome}
+use Rattle.machine_slices.specs.Slices.{paired}
+use Rattle.machine_slices.proofs.Formed.{slices-length}
+use Rattle.refusal_checks.proofs.Lengths.{set-within}
+use Rattle.refusal_checks.proofs.Stopped.{set-formed}
 use Rattle.window.proofs.Calls.{table-room, ready-tables}
 use Rattle.encoder.proofs.Settling.{settled-encoding, gathered-held}
 use Rattle.encoder.proofs.encode.Statement.{statement}

@@ -2,15 +2,15 @@
 use mathlib.Core.Path.{_≡_, sym, ap, _∙_}
 use native.Mathlib.Omega.{arith}
 use borrow.Author.Needs.{needs}
-use Rattle.register.specs.declared.Settings.{Settings}
-use Rattle.register.specs.Machine.{base}
-use Rattle.checks.specs.Order.{judged}
-use Rattle.checks.specs.Calls.{cubesFaults}
+use Rattle.machine_register.specs.declared.Settings.{Settings}
+use Rattle.machine_register.specs.Machine.{base}
+use Rattle.refusal_checks.specs.Order.{judged}
+use Rattle.refusal_checks.specs.Calls.{cubesFaults}
 use Rattle.encoder.specs.Encoding.{CubesOutcome}
 use Rattle.encoder.proofs.Formed.{cubes-formed}
 use Rattle.encoder.proofs.Cubes.{cubes-refused, cubes-well, cubes-outcome}
 use Rattle.encoder.proofs.encode_cubes.Statement.{statement}
-use Rattle.checks.specs.declared.Verdict.the-variants as verdict
+use Rattle.refusal_checks.specs.declared.Verdict.the-variants as verdict
 use Rattle.encoder.proofs.encode_cubes.Tie as tie
 
 base-requires : tie.Need-base-requires

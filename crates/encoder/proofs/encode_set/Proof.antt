@@ -2,16 +2,16 @@
 use mathlib.Core.Path.{_≡_, sym, ap, _∙_}
 use native.Mathlib.Omega.{arith}
 use borrow.Author.Needs.{needs}
-use Rattle.causes.specs.Outcome.{Outcome}
-use Rattle.register.specs.declared.Settings.{Settings}
-use Rattle.register.specs.Machine.{base}
-use Rattle.checks.specs.Order.{judged}
-use Rattle.checks.specs.Calls.{setFaults}
-use Rattle.causes.proofs.Outcome.{refused-parts}
+use Rattle.refusal_causes.specs.Outcome.{Outcome}
+use Rattle.machine_register.specs.declared.Settings.{Settings}
+use Rattle.machine_register.specs.Machine.{base}
+use Rattle.refusal_checks.specs.Order.{judged}
+use Rattle.refusal_checks.specs.Calls.{setFaults}
+use Rattle.refusal_causes.proofs.Outcome.{refused-parts}
 use Rattle.encoder.specs.Encoding.{encodeSet}
 use Rattle.encoder.proofs.Calls.{set-refused, set-well, set-outcome}
 use Rattle.encoder.proofs.encode_set.Statement.{statement}
-use Rattle.checks.specs.declared.Verdict.the-variants as verdict
+use Rattle.refusal_checks.specs.declared.Verdict.the-variants as verdict
 use Rattle.encoder.proofs.encode_set.Tie as tie
 
 base-requires : tie.Need-base-requires

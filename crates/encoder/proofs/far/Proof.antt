@@ -1,7 +1,7 @@
 -- `encoder::far` meets its contract. Assumes nothing.
 use mathlib.Core.Path.{_∙_, sym}
 use borrow.Author.Needs.{needs}
-use Rattle.covering.proofs.Places.{far-rules}
+use Rattle.theory_covering.proofs.Places.{far-rules}
 use Rattle.encoder.proofs.far.Statement.{statement}
 use Rattle.encoder.proofs.far.Tie as tie
 

@@ -5,16 +5,16 @@ use native.Mathlib.Omega.{arith}
 use lib.ListN.{length}
 use borrow.Author.Needs.{needs}
 use Rattle.encoder.proofs.Gathering.{gathering-answer, Gathering, gathering-start, gathering-next}
-use Rattle.covering.proofs.Windows.{set-bounds}
-use Rattle.covering.specs.Windows.{ok}
-use Rattle.cutting.specs.Greedy.{reach}
-use Rattle.cutting.proofs.Reach.{reach-end}
+use Rattle.theory_covering.proofs.Windows.{set-bounds}
+use Rattle.theory_covering.specs.Windows.{ok}
+use Rattle.theory_cutting.specs.Greedy.{reach}
+use Rattle.theory_cutting.proofs.Reach.{reach-end}
 use Rattle.window.proofs.Seeds.{ready-fewer}
 use Rattle.encoder.proofs.Starts.{part-bounds, part-slices, part-window}
-use Rattle.register.specs.Machine.{machine}
-use Rattle.slices.specs.Slices.{paired}
-use Rattle.slices.proofs.Formed.{slices-length}
-use Rattle.covering.specs.Rules.{rules}
+use Rattle.machine_register.specs.Machine.{machine}
+use Rattle.machine_slices.specs.Slices.{paired}
+use Rattle.machine_slices.proofs.Formed.{slices-length}
+use Rattle.theory_covering.specs.Rules.{rules}
 use Rattle.encoder.proofs.gather.Statement.{statement}
 use Rattle.encoder.proofs.gather.Tie as tie
 

@@ -3,7 +3,7 @@ use mathlib.Core.Path.{_∙_}
 use borrow.Author.Needs.{needs}
 use Rattle.encoder.specs.Code.{settled}
 use Rattle.encoder.proofs.Settling.{settled-stuck, settled-short, settled-whole}
-use Rattle.causes.proofs.Outcome.{refused-parts, outcome-parts}
+use Rattle.refusal_causes.proofs.Outcome.{refused-parts, outcome-parts}
 use Rattle.encoder.proofs.settle.Statement.{statement}
 use Rattle.encoder.proofs.settle.Tie as tie
 

@@ -2,12 +2,12 @@
 use mathlib.Core.Path.{_≡_, sym, _∙_}
 use native.Mathlib.Omega.{arith}
 use borrow.Author.Needs.{needs}
-use Rattle.causes.specs.declared.Written.the-variants.{Count, Refused}
-use Rattle.register.specs.Machine.{machine}
-use Rattle.covering.specs.Rules.{rules}
+use Rattle.refusal_causes.specs.declared.Written.the-variants.{Count, Refused}
+use Rattle.machine_register.specs.Machine.{machine}
+use Rattle.theory_covering.specs.Rules.{rules}
 use Rattle.expander.specs.Expanding.{walk}
 use Rattle.expander.specs.Code.{tally}
-use Rattle.causes.proofs.Outcome.{outcome-parts, refused-parts}
+use Rattle.refusal_causes.proofs.Outcome.{outcome-parts, refused-parts}
 use Rattle.expander.proofs.Outcomes.{found, found-refused, found-other, found-short, found-whole}
 use Rattle.expander.proofs.expand_formed.Statement.{statement}
 use Rattle.expander.proofs.expand_formed.Tie as tie

@@ -4,16 +4,16 @@ use Prim.Native.Nat.{_≤_}
 use native.Mathlib.Omega.{arith}
 use lib.ListN.{length}
 use borrow.Author.Needs.{needs}
-use Rattle.causes.specs.Outcome.{Outcome}
-use Rattle.register.specs.declared.Settings.{Settings}
-use Rattle.register.specs.Machine.{base}
-use Rattle.checks.specs.Order.{judged}
-use Rattle.checks.specs.Calls.{listFaults}
+use Rattle.refusal_causes.specs.Outcome.{Outcome}
+use Rattle.machine_register.specs.declared.Settings.{Settings}
+use Rattle.machine_register.specs.Machine.{base}
+use Rattle.refusal_checks.specs.Order.{judged}
+use Rattle.refusal_checks.specs.Calls.{listFaults}
 use Rattle.expander.specs.Expanding.{expandList}
-use Rattle.causes.proofs.Outcome.{refused-parts}
+use Rattle.refusal_causes.proofs.Outcome.{refused-parts}
 use Rattle.expander.proofs.Outcomes.{call-refused, call-formed, call-ready, few-seeds}
 use Rattle.expander.proofs.expand_list.Statement.{statement}
-use Rattle.checks.specs.declared.Verdict.the-variants as verdict
+use Rattle.refusal_checks.specs.declared.Verdict.the-variants as verdict
 use Rattle.expander.proofs.expand_list.Tie as tie
 
 base-requires : tie.Need-base-requires

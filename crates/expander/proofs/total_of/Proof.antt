@@ -5,7 +5,7 @@ use Prim.Native.Nat.{ℕ, _*_, _-_, _≤_, _<_}
 use native.Mathlib.Omega.{arith}
 use lib.ListN.{length}
 use borrow.Author.Needs.{needs}
-use Rattle.register.specs.Machine.{machine}
+use Rattle.machine_register.specs.Machine.{machine}
 use Rattle.expander.proofs.Running.{Searched, searched-start, searched-next, searched-hit, searched-end, shown, stepped}
 use Rattle.expander.proofs.Tallying.{Tallied, tallied-start, tallied-end, tallied-refused, tallied-more, walk-beyond, walk-at-stop, walk-endless, walk-next}
 use Rattle.expander.proofs.total_of.Statement.{statement}

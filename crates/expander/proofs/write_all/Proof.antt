@@ -5,8 +5,8 @@ use Prim.Native.Nat.{ℕ, _-_, _≤_}
 use native.Mathlib.Omega.{arith}
 use lib.ListN.{length, getD}
 use borrow.Author.Needs.{needs}
-use Rattle.register.specs.Machine.{machine}
-use Rattle.covering.specs.Rules.{rules}
+use Rattle.machine_register.specs.Machine.{machine}
+use Rattle.theory_covering.specs.Rules.{rules}
 use Rattle.expander.specs.Expanding.{ran, walk}
 use Rattle.expander.specs.Code.{untilStop}
 use Rattle.expander.proofs.Filling.{until-length, size-kept, Filled, filled-start, filled-next, filled-end}

@@ -5,7 +5,7 @@ use native.Mathlib.Omega.{arith}
 use lib.ListN.{length}
 use borrow.Author.Needs.{needs}
 use Rattle.expander.proofs.Running.{sliced, shown, stepped}
-use Rattle.register.specs.Machine.{machineWith}
+use Rattle.machine_register.specs.Machine.{machineWith}
 use Rattle.expander.proofs.Writing.{Writes, writes-start, writes-next, writes-stop, writes-end}
 use Rattle.expander.proofs.write_run.Statement.{statement}
 use Rattle.expander.proofs.write_run.Tie as tie

@@ -7,9 +7,9 @@ use lib.ListN.{getD, length, take}
 use borrow.Author.Needs.{needs}
 use borrow.Fn.Kinds.{In}
 use borrow.Fn.PlainCycle.{Measures, is, falls, and}
-use Rattle.space.proofs.Taking.{taken-left}
-use Rattle.space.specs.Space.{pivot}
-use Rattle.space.specs.declared.Taken.{Taken}
+use Rattle.search_space.proofs.Taking.{taken-left}
+use Rattle.search_space.specs.Space.{pivot}
+use Rattle.search_space.specs.declared.Taken.{Taken}
 use Rattle.search.proofs.Reading.{row-fits}
 use Rattle.search.proofs.Branching.{first-none, first-some, finds-lowest-clear, lowest-clear-finds, finds-pruned, finds-lowest, Branched, branched-start, branched-same, branched-child, child-rising, child-shorter, branched-end}
 use Rattle.search.proofs.+branch.{statement}
@@ -21,7 +21,7 @@ use Rattle.search.proofs.rows.first_shown.Reads as first-shown-reads
 use Rattle.search.proofs.leaves.is_leaf.Reads as is-leaf-reads
 use Rattle.search.proofs.leaves.leaf.Reads as leaf-reads
 use Rattle.search.proofs.lower.reached.Reads as reached-reads
-use Rattle.space.proofs.take_out.Reads as take-out-reads
+use Rattle.search_space.proofs.take_out.Reads as take-out-reads
 
 abbrev μ-branch : Measures 1 branch-kinds.ps ℕ
 μ-branch κs a = length (take (a .1 .1 .1 .1 .1 .0) (a .1 .1 .1 .1 .0))

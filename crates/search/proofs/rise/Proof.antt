@@ -6,7 +6,7 @@ use Prim.Native.Nat.{_-_, _≤_, _<_}
 use lib.ListN.{length, take, length-take}
 use lib.Seq.{getD-take, take-take}
 use Rattle.search.specs.Search.{lowestClear}
-use Rattle.space.proofs.Blocks.{block-rising, front-rising}
+use Rattle.search_space.proofs.Blocks.{block-rising, front-rising}
 use Rattle.search.proofs.Rising.{front-more, front-lowest}
 use Rattle.search.proofs.rise.Statement.{statement}
 use Rattle.search.proofs.rise.Tie as tie

@@ -1,7 +1,7 @@
 -- `seeds::seeds_encode_cubes` meets its contract. Assumes nothing.
 use mathlib.Core.Path.{ap, _∙_}
 use borrow.Author.Needs.{needs}
-use Rattle.register.specs.Machine.{base}
+use Rattle.machine_register.specs.Machine.{base}
 use Rattle.encoder.proofs.Cubes.{cubes-means}
 use Rattle.seeds.specs.Face.{cubesAnswerOf}
 use Rattle.seeds.proofs.seeds_encode_cubes.Statement.{statement}

@@ -1,7 +1,7 @@
 -- `seeds::seeds_encode_set` meets its contract. Assumes nothing.
 use mathlib.Core.Path.{ap, _∙_}
 use borrow.Author.Needs.{needs}
-use Rattle.register.specs.Machine.{base}
+use Rattle.machine_register.specs.Machine.{base}
 use Rattle.encoder.proofs.Calls.{set-means}
 use Rattle.seeds.specs.Face.{answerOf, testSliceOf}
 use Rattle.seeds.proofs.seeds_encode_set.Statement.{statement}

@@ -1,8 +1,8 @@
 -- `seeds::seeds_window` meets its contract. Assumes nothing.
 use mathlib.Core.Path.{ap, _∙_}
 use borrow.Author.Needs.{needs}
-use Rattle.register.specs.Machine.{base}
-use Rattle.covering.proofs.Single.{window-means}
+use Rattle.machine_register.specs.Machine.{base}
+use Rattle.theory_covering.proofs.Single.{window-means}
 use Rattle.seeds.specs.Face.{seedAnswerOf, testSliceOf}
 use Rattle.seeds.proofs.seeds_window.Statement.{statement}
 use Rattle.seeds.proofs.seeds_window.Tie as tie

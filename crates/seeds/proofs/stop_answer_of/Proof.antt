@@ -1,7 +1,7 @@
 -- `seeds::stop_answer_of` meets its contract. Assumes nothing.
 use mathlib.Core.Path.{sym, ap, _∙_}
 use borrow.Author.Needs.{needs}
-use Rattle.causes.specs.declared.Refusal.{Refusal}
+use Rattle.refusal_causes.specs.declared.Refusal.{Refusal}
 use Rattle.seeds.specs.Face.{stopAnswerOf}
 use Rattle.seeds.specs.declared.StopAnswer.{StopAnswer}
 use Rattle.seeds.proofs.stop_answer_of.Statement.{statement}

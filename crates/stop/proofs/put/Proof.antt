@@ -1,7 +1,7 @@
 -- `stop::put` meets its contract. Assumes nothing.
 use native.Mathlib.Omega.{arith}
 use borrow.Author.Needs.{needs}
-use Rattle.gf2.proofs.Digits.{one-shifted}
+use Rattle.words_gf2.proofs.Digits.{one-shifted}
 use Rattle.stop.proofs.Counting.{put-fits, put-bit-fits}
 use Rattle.stop.proofs.put.Statement.{statement}
 use Rattle.stop.proofs.put.Tie as tie

@@ -1,11 +1,11 @@
 -- `stop::stop_slice` meets its contract. Assumes nothing.
 use mathlib.Core.Path.{_≡_, sym, _∙_}
 use borrow.Author.Needs.{needs}
-use Rattle.checks.specs.Order.{judged}
-use Rattle.checks.specs.Calls.{stopFaults}
+use Rattle.refusal_checks.specs.Order.{judged}
+use Rattle.refusal_checks.specs.Calls.{stopFaults}
 use Rattle.stop.proofs.Calls.{call-refused, call-formed, few-chains}
 use Rattle.stop.proofs.stop_slice.Statement.{statement}
-use Rattle.checks.specs.declared.Verdict.the-variants as verdict
+use Rattle.refusal_checks.specs.declared.Verdict.the-variants as verdict
 use Rattle.stop.proofs.stop_slice.Tie as tie
 
 check-stop-requires : tie.Need-check-stop-requires

@@ -3,7 +3,7 @@ use mathlib.Core.Path.{sym, ap, _∙_}
 use Prim.Native.Nat.{ℕ}
 use native.Mathlib.Omega.{arith}
 use borrow.Author.Needs.{needs}
-use Rattle.slices.specs.declared.TestSlice.{TestSlice}
+use Rattle.machine_slices.specs.declared.TestSlice.{TestSlice}
 use Rattle.stop.specs.Lookup.{inCount}
 use Rattle.stop.specs.Code.{track}
 use Rattle.stop.proofs.Lookup.{free-unset}

@@ -3,7 +3,7 @@ use borrow.Author.Needs.{needs}
 use Rattle.text.proofs.number.Statement.{statement}
 use Rattle.text.proofs.number.Tie as tie
 use native.Mathlib.Omega.{arith}
-use Rattle.reading.proofs.Heads.{rank-lt}
+use Rattle.text_reading.proofs.Heads.{rank-lt}
 
 rank-requires : tie.Need-rank-requires
 rank-requires c κs = search needs

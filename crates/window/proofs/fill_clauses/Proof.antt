@@ -5,8 +5,8 @@ use native.Mathlib.Omega.{arith}
 use lib.ListN.{length}
 use lib.Seq.{length-take-le}
 use borrow.Author.Needs.{needs}
-use Rattle.table.specs.Chosen.{packed}
-use Rattle.table.proofs.Choosing.{chosen-few}
+use Rattle.search_table.specs.Chosen.{packed}
+use Rattle.search_table.proofs.Choosing.{chosen-few}
 use Rattle.search.specs.declared.Pattern.{Pattern}
 use Rattle.window.proofs.Clauses.{front-chosen, few-entries}
 use Rattle.window.proofs.fill_clauses.Statement.{statement}

@@ -2,7 +2,7 @@
 use native.Mathlib.Omega.{arith}
 use native.Mathlib.Nat.{suc-mul}
 use lib.ListN.{length}
-use Rattle.register.proofs.Causes.{cells-within}
+use Rattle.machine_register.proofs.Causes.{cells-within}
 use Rattle.window.proofs.Seeds.{stop-rows}
 use borrow.Author.Needs.{needs}
 use Rattle.window.proofs.reach.Statement.{statement}

@@ -5,8 +5,8 @@ use native.Mathlib.Omega.{arith}
 use native.Mathlib.Numerals.{add-one}
 use lib.ListN.{length}
 use borrow.Author.Needs.{needs}
-use Rattle.checks.proofs.Lengths.{window-within}
-use Rattle.checks.proofs.Stopped.{window-formed}
+use Rattle.refusal_checks.proofs.Lengths.{window-within}
+use Rattle.refusal_checks.proofs.Stopped.{window-formed}
 use Rattle.window.proofs.Calls.{table-room, ready-tables}
 use Rattle.window.proofs.seed_of.Statement.{statement}
 use Rattle.window.proofs.seed_of.Tie as tie

@@ -2,13 +2,13 @@
 use mathlib.Core.Path.{_≡_, sym, ap, _∙_}
 use native.Mathlib.Omega.{arith}
 use borrow.Author.Needs.{needs}
-use Rattle.register.specs.declared.Settings.{Settings}
-use Rattle.checks.specs.Order.{judged}
-use Rattle.checks.specs.Calls.{windowFaults}
-use Rattle.covering.proofs.Single.{window-answer, window-well, window-refused}
-use Rattle.register.specs.Machine.{base}
+use Rattle.machine_register.specs.declared.Settings.{Settings}
+use Rattle.refusal_checks.specs.Order.{judged}
+use Rattle.refusal_checks.specs.Calls.{windowFaults}
+use Rattle.theory_covering.proofs.Single.{window-answer, window-well, window-refused}
+use Rattle.machine_register.specs.Machine.{base}
 use Rattle.window.proofs.window_seed.Statement.{statement}
-use Rattle.checks.specs.declared.Verdict.the-variants as verdict
+use Rattle.refusal_checks.specs.declared.Verdict.the-variants as verdict
 use Rattle.window.proofs.window_seed.Tie as tie
 
 base-requires : tie.Need-base-requires

@@ -1,6 +1,6 @@
 -- `search::leaves::clear_lane` meets its contract. Assumes nothing.
 use mathlib.Core.Logic.{⊎-elim}
-use Rattle.gf2.proofs.Digits.{digit-lt}
+use Rattle.words_gf2.proofs.Digits.{digit-lt}
 use borrow.Author.Count.{below-more}
 use Rattle.search.proofs.Branching.{first-none, first-unclear}
 use borrow.Author.Needs.{needs}
@@ -9,7 +9,7 @@ use mathlib.Core.Path.{_≡_, sym}
 use Prim.Native.Nat.{ℕ, _-_, _+_, _*_, _≤_, _<_}
 use mathlib.Core.Bool.{false}
 use lib.ListN.{take}
-use Rattle.space.specs.Space.{pick}
+use Rattle.search_space.specs.Space.{pick}
 use Rattle.search.specs.Clauses.{clear}
 use Rattle.search.proofs.leaves.clear_lane.Statement.{statement}
 use Rattle.search.proofs.leaves.clear_lane.Tie as tie

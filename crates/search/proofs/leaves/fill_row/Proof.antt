@@ -1,6 +1,6 @@
 -- `search::leaves::fill_row` meets its contract. Assumes nothing.
 use mathlib.Core.Bool.{false}
-use Rattle.bounded.proofs.Tests.{clash}
+use Rattle.words_bounded.proofs.Tests.{clash}
 use lib.ListN.{set}
 use borrow.Author.Needs.{needs}
 use native.Mathlib.Omega.{arith}

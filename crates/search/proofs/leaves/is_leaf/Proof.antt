@@ -1,7 +1,7 @@
 -- `search::leaves::is_leaf` meets its contract. Assumes nothing.
 use mathlib.Core.Path.{refl, sym, _∙_}
 use mathlib.Core.Bool.{false}
-use Rattle.bounded.proofs.Tests.{within-yes, clash}
+use Rattle.words_bounded.proofs.Tests.{within-yes, clash}
 use borrow.Author.Needs.{needs}
 use Rattle.search.proofs.leaves.is_leaf.Statement.{statement}
 use Rattle.search.proofs.leaves.is_leaf.Tie as tie

@@ -4,7 +4,7 @@ use borrow.Author.Needs.{needs}
 use native.Mathlib.Omega.{arith}
 use mathlib.Core.Path.{_≡_, subst}
 use Prim.Native.Nat.{ℕ, _+_, _-_}
-use Rattle.gf2.proofs.Digits.{digit-none}
+use Rattle.words_gf2.proofs.Digits.{digit-none}
 use Rattle.search.proofs.Killing.{Showing, showing-start, showing-next}
 use Rattle.search.proofs.leaves.showing.Statement.{statement}
 use Rattle.search.proofs.leaves.showing.Tie as tie

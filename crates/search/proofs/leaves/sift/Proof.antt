@@ -6,7 +6,7 @@ use native.Mathlib.Omega.{arith}
 use lib.ListN.{take}
 use lib.Seq.{length-take-le}
 use borrow.Author.Needs.{needs}
-use Rattle.gf2.proofs.Digits.{one-shifted}
+use Rattle.words_gf2.proofs.Digits.{one-shifted}
 use Rattle.search.proofs.Killing.{dead-clear}
 use Rattle.search.proofs.Sifting.{NotClear, group-first, group-passed, group-dead, found-none, found-number, found-before, groups-few, groups-whole}
 use Rattle.search.proofs.leaves.sift.Statement.{statement}

@@ -6,7 +6,7 @@ use native.Mathlib.Omega.{arith}
 use lib.ListN.{length}
 use borrow.Author.Needs.{needs}
 use borrow.Author.Count.{below-more}
-use Rattle.bounded.specs.Bounded.{NoneBelow}
+use Rattle.words_bounded.specs.Bounded.{NoneBelow}
 use Rattle.search.specs.Clauses.{shown}
 use Rattle.search.proofs.Reading.{row-fits}
 use Rattle.search.proofs.Branching.{shown-first, shown-never}

@@ -1,13 +1,13 @@
 -- `window::forced::most_quiet` meets its contract. Assumes nothing.
-use Rattle.slices.specs.Slices.{paired}
+use Rattle.machine_slices.specs.Slices.{paired}
 use borrow.Author.Tests.{not-true}
 use borrow.Author.Needs.{needs}
 use native.Mathlib.Omega.{arith}
 use mathlib.Core.Path.{_≡_, sym, _∙_}
 use Prim.Native.Nat.{_-_, _≤_}
 use lib.ListN.{length, take}
-use Rattle.slices.proofs.Causes.{slices-equal}
-use Rattle.slices.proofs.Formed.{slices-length}
+use Rattle.machine_slices.proofs.Causes.{slices-equal}
+use Rattle.machine_slices.proofs.Formed.{slices-length}
 use Rattle.search.proofs.Reading.{row-fits}
 use Rattle.window.specs.Code.{quietMeet}
 use Rattle.window.proofs.Fitting.{row-asked, most-end}

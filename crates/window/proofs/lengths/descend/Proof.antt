@@ -4,8 +4,8 @@ use mathlib.Core.Bool.{_||_}
 use lib.Dec.{ltb}
 use lib.ListN.{length, take}
 use lib.Seq.{length-take-le}
-use Rattle.slices.proofs.Causes.{slices-equal}
-use Rattle.slices.proofs.Formed.{slices-length, slices-take}
+use Rattle.machine_slices.proofs.Causes.{slices-equal}
+use Rattle.machine_slices.proofs.Formed.{slices-length, slices-take}
 use Rattle.search.proofs.Finding.{state-some, nothing-none}
 use Rattle.window.proofs.Seeds.{ready-fewer}
 use Rattle.window.proofs.Growing.{held-part}
@@ -13,8 +13,8 @@ use borrow.Author.Needs.{needs}
 use native.Mathlib.Omega.{arith}
 use mathlib.Core.Path.{_≡_, sym, _∙_}
 use Prim.Native.Nat.{suc, _≤_}
-use Rattle.register.specs.Machine.{machine}
-use Rattle.slices.specs.Slices.{paired}
+use Rattle.machine_register.specs.Machine.{machine}
+use Rattle.machine_slices.specs.Slices.{paired}
 use Rattle.window.proofs.Reaching.{Passed, passed-start, passed-next, tried, reach-found, reach-none}
 use Rattle.window.proofs.lengths.descend.Statement.{statement}
 use Rattle.window.proofs.lengths.descend.Tie as tie

@@ -4,9 +4,9 @@ use native.Mathlib.Omega.{arith}
 use native.Mathlib.Nat.{suc-mul, mul-le-mul-right}
 use lib.ListN.{length, take, length-take}
 use lib.Seq.{length-take-le}
-use Rattle.register.proofs.Causes.{cells-within}
-use Rattle.slices.proofs.Causes.{slices-equal}
-use Rattle.slices.proofs.Formed.{slices-length, slices-take}
+use Rattle.machine_register.proofs.Causes.{cells-within}
+use Rattle.machine_slices.proofs.Causes.{slices-equal}
+use Rattle.machine_slices.proofs.Formed.{slices-length, slices-take}
 use Rattle.window.proofs.Growing.{grown-part}
 use borrow.Author.Needs.{needs}
 use Rattle.window.proofs.lengths.reach_with.Statement.{statement}

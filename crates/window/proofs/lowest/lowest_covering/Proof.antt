@@ -4,7 +4,7 @@ use Prim.Native.Nat.{suc}
 use native.Mathlib.Omega.{arith}
 use lib.ListN.{length, take}
 use borrow.Author.Tests.{not-true, not-false}
-use Rattle.slices.proofs.Formed.{slice-formed, stop-slice}
+use Rattle.machine_slices.proofs.Formed.{slice-formed, stop-slice}
 use Rattle.search.specs.Search.{foundOf}
 use Rattle.search.proofs.Reading.{row-fits}
 use Rattle.window.proofs.Keeping.{keeps-none}

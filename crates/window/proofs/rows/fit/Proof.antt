@@ -4,8 +4,8 @@ use native.Mathlib.Omega.{arith}
 use mathlib.Core.Path.{_≡_, refl, _∙_}
 use Prim.Native.Nat.{_-_, _≤_}
 use lib.ListN.{length, take}
-use Rattle.slices.specs.Slices.{paired}
-use Rattle.slices.proofs.Causes.{slices-equal}
+use Rattle.machine_slices.specs.Slices.{paired}
+use Rattle.machine_slices.proofs.Causes.{slices-equal}
 use Rattle.window.proofs.Fitting.{row-asked, Fitted, fitted-start, fitted-next, fitted-end}
 use Rattle.window.proofs.rows.fit.Statement.{statement}
 use Rattle.window.proofs.rows.fit.Tie as tie

@@ -5,7 +5,7 @@ use Prim.Native.Nat.{_-_, _^_, _%_, _<_}
 use native.Mathlib.Omega.{arith}
 use lib.ListN.{getD, length, take, drop}
 use borrow.Author.Needs.{needs}
-use Rattle.space.proofs.Restricting.{restricted-left}
+use Rattle.search_space.proofs.Restricting.{restricted-left}
 use Rattle.window.specs.Code.{meets}
 use Rattle.window.proofs.Narrowing.{Toward}
 use Rattle.window.proofs.Meeting.{meet-take, meet-skip, meet-end, left-chain, left-half}

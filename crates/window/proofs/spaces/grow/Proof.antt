@@ -6,8 +6,8 @@ use native.Mathlib.Omega.{arith}
 use mathlib.Core.Path.{_≡_, sym, _∙_}
 use Prim.Native.Nat.{_-_, _/_, _≤_}
 use lib.ListN.{length, take}
-use Rattle.slices.specs.Slices.{paired}
-use Rattle.slices.proofs.Causes.{slices-equal}
+use Rattle.machine_slices.specs.Slices.{paired}
+use Rattle.machine_slices.proofs.Causes.{slices-equal}
 use Rattle.window.specs.Code.{allStates, unitsOf}
 use Rattle.window.proofs.Fitting.{row-asked, fitted-next}
 use Rattle.window.proofs.Growing.{Growing, growing-start, growing-next, growing-beyond, grown-stop, grown-end}

@@ -1,0 +1,27 @@
+-- A slice as document 01 writes it: a character for each chain, chain 1 leftmost; 0, 1 or x.
+--     ofRow r                the slice of a row of characters; none where there is no slice
+--     slice s                the test slice or stop slice of such a text
+--     specifieds, bitses     the two lists of several
+use mathlib.Core.List.{List, [], _∷_}
+use Prim.Native.Nat.{ℕ}
+use Prim.Native.String.{String}
+use Rattle.machine_slices.specs.declared.TestSlice.{TestSlice}
+use Rattle.text_keys.specs.Bytes.{bytes}
+use Rattle.text_lines.specs.Characters.{rowOf}
+use Rattle.text_lines.specs.declared.Row.{Row}
+use Rattle.text_lines.specs.declared.Row.the-variants as rows
+
+abbrev pub ofRow : Row → TestSlice
+ofRow (rows.Slice s) = s
+ofRow rows.Nothing = record { specified = 0; bits = 0 }
+
+abbrev pub slice : String → TestSlice
+slice s = ofRow (rowOf (bytes s))
+
+abbrev pub specifieds : List String → List ℕ
+specifieds [] = []
+specifieds (s ∷ ss) = (slice s) .specified ∷ specifieds ss
+
+abbrev pub bitses : List String → List ℕ
+bitses [] = []
+bitses (s ∷ ss) = (slice s) .bits ∷ bitses ss

@@ -1,0 +1,162 @@
+-- The starred examples of document 01, "Bench examples": one table, and one proof over it. Register R is cells 3, taps 6, chain masks 1 and 4.
+--     Question     what is asked, in the words of the examples
+--     Told         what is told: numbers, a slice, a list with its stop slice, or a refusal with its number and value
+--     answer       what the definitions answer
+--     Row, table   the questions with what document 01 tells
+--     answers, tolds     the two columns of a table
+--     starred      the definitions answer what document 01 tells, in every row
+use mathlib.Core.Path.{_≡_, refl}
+use mathlib.Core.Bool.{Bool, true, false}
+use mathlib.Core.List.{List, [], _∷_}
+use Prim.Native.Nat.{ℕ, zero, suc}
+use Prim.Native.String.{String}
+use lib.ListN.{take}
+use lib.Count.{ones, onesIn}
+use Rattle.words_bounded.specs.Bounded.{within, any, leastBelow, lastBelow}
+use Rattle.words_gf2.specs.Words.{digit, odd, beyond}
+use Rattle.refusal_causes.specs.declared.Cause.{Cause}
+use Rattle.refusal_causes.specs.declared.Written.{Written}
+use Rattle.refusal_causes.specs.declared.Written.the-variants as written
+use Rattle.refusal_causes.specs.Sheet.{refusalOf}
+use Rattle.refusal_causes.specs.Outcome.{Outcome, refuse, fill}
+use Rattle.machine_register.specs.Register.{step, badRegister}
+use Rattle.machine_register.specs.Chains.{slice as chainsSlice, badCount, badMask, badChains}
+use Rattle.machine_register.specs.Machine.{Machine, base, machine}
+use Rattle.machine_slices.specs.declared.TestSlice.{TestSlice}
+use Rattle.machine_slices.specs.Slices.{agrees, shows, paired, badSlice, badSlices, badStop}
+use Rattle.refusal_checks.specs.Lengths.{badWindow, badSet, badCubes, badList}
+use Rattle.refusal_checks.specs.Order.{tests, firstOf, judged}
+use Rattle.refusal_checks.specs.Calls.{stoppedFaults, windowFaults, setFaults, cubesFaults, stopFaults, listFaults}
+use Rattle.theory_cutting.specs.Greedy.{reach, hop, ends, greedy}
+use Rattle.stop.specs.Steps.{filter, count, better, choice, settle, keep, setBy, advance, stage, ended, stopFor}
+use Rattle.stop.specs.Entry.{stopOr6, stopOf}
+use Rattle.stop.specs.declared.Formed.{Formed}
+use Rattle.stop.specs.declared.Formed.the-variants as formed
+use Rattle.theory_covering.specs.Covering.{fits, quiet, covers, seedOf}
+use Rattle.theory_covering.specs.Windows.{before, far, placed, closes, seedAt, ok}
+use Rattle.theory_covering.specs.Single.{lowestOr7, windowSeed}
+use Rattle.theory_covering.specs.declared.Seed.{Seed}
+use Rattle.theory_covering.specs.declared.Seed.the-variants as seed
+use Rattle.expander.specs.Run.{slicesOf, firstStop, ending, delivers}
+use Rattle.expander.specs.Expanding.{after, walk, totalled, expanding, expandList}
+use Rattle.encoder.specs.Encoding.{seedsOf, planned, encoding, encodeSet, CubesOutcome, stopped, withStop, cubesEncoding, encodeCubes}
+use Rattle.encoder.specs.declared.Encoded.{Encoded}
+use Rattle.encoder.specs.declared.Encoded.the-variants as encoded
+use Rattle.text_lines.specs.Characters.{isCharacter, specifiedAt, bitAt, inFront, rowOf}
+use Rattle.examples_bench.specs.Reading.{slice, specifieds, bitses}
+
+pub data Question : Type 0 where
+  stepping : ℕ → ℕ → Question  -- R from this state, so many steps
+  stop-slice : ℕ → List String → Question  -- so many chains, these slices
+  window : String → List String → Question  -- R, this stop, this window
+  fitting : String → List String → ℕ → Question  -- R: the state fits the bits and the closing stop of the window (1)
+  showing : String → ℕ → ℕ → Question  -- R: those of the first slices of the state that show the stop
+  set : String → List String → Question  -- R, this stop, this set
+  sheet : ℕ → List String → Question  -- R, cubes of this depth
+  expand : String → ℕ → List ℕ → Question  -- R, this stop, slices, seeds
+
+pub data Told : Type 0 where
+  numbers : List ℕ → Told
+  slice-is : TestSlice → Told
+  list-is : TestSlice → List ℕ → Told
+  refused : ℕ → ℕ → Told
+
+abbrev masks : List ℕ
+masks = 1 ∷ 4 ∷ []
+
+abbrev R : Machine
+R = machine (base 3 6) masks
+
+-- a lent buffer
+abbrev lent : List ℕ
+lent = 9 ∷ 9 ∷ 9 ∷ 9 ∷ []
+
+-- ---- what the definitions answer
+
+refusal : Cause → Told
+refusal c = refused (refusalOf c .number) (refusalOf c .value)
+
+states : ℕ → ℕ → List ℕ
+states s zero = []
+states s (suc t) = step 3 6 s ∷ states (step 3 6 s) t
+
+showings : TestSlice → ℕ → ℕ → ℕ → List ℕ
+showings stop s t zero = []
+showings stop s t (suc d) = elim (shows stop (R .slice s)) [ true ↦ t ∷ showings stop (R .step s) (suc t) d | false ↦ showings stop (R .step s) (suc t) d ]
+
+of-formed : Formed → Told
+of-formed (formed.Stop stop) = slice-is stop
+of-formed (formed.Refused c) = refusal c
+
+of-seed : Seed → Told
+of-seed (seed.Lowest s) = numbers (s ∷ [])
+of-seed (seed.Refused c) = refusal c
+
+of-written : Written → List ℕ → Told
+of-written (written.Count n) buffer = numbers (take n buffer)
+of-written (written.Refused c) buffer = refusal c
+
+of-encoded : Encoded → List ℕ → Told
+of-encoded (encoded.Seeds stop n) buffer = list-is stop (take n buffer)
+of-encoded (encoded.Refused c) buffer = refusal c
+
+yes : Bool → ℕ
+yes true = 1
+yes false = 0
+
+answer : Question → Told
+answer (stepping s t) = numbers (states s t)
+answer (stop-slice chains ss) = of-formed (stopOf chains (specifieds ss) (bitses ss))
+answer (window stop ss) = of-seed (windowSeed (base 3 6) masks (slice stop) (specifieds ss) (bitses ss))
+answer (fitting stop ss s) = numbers (yes (fits R (slice stop) true (paired (specifieds ss) (bitses ss)) s) ∷ [])
+answer (showing stop m s) = numbers (showings (slice stop) s 0 m)
+answer (set stop ss) = (let o : Outcome = encodeSet (base 3 6) masks (slice stop) (specifieds ss) (bitses ss) lent in of-written (o .answer) (o .buffer))
+answer (sheet depth ss) = (let o : CubesOutcome = encodeCubes (base 3 6) masks depth (specifieds ss) (bitses ss) lent in of-encoded (o .answer) (o .buffer))
+answer (expand stop n seeds) = (let o : Outcome = expandList (base 3 6) masks (slice stop) n seeds lent in of-written (o .answer) (o .buffer))
+
+-- ---- the table
+
+pub record Row : Type 0 where
+  pub asked : Question
+  pub told : Told
+
+abbrev pub table : List Row
+table =
+    -- R from state 1 steps through 2, 5, 3, 7, 6, 4 to 1
+    record { asked = stepping 1 7; told = numbers (2 ∷ 5 ∷ 3 ∷ 7 ∷ 6 ∷ 4 ∷ 1 ∷ []) }
+    -- document 004, figure 2
+    ∷ record { asked = stop-slice 10 ("x001x10x11" ∷ "10xx0010xx" ∷ "xx10xx01x1" ∷ "x1xxxx110x" ∷ "01x11xx110" ∷ "x0xxxxxxxx" ∷ []); told = slice-is (slice "x1xxxxx0xx") }
+    -- one chain, slices 0 and 1
+    ∷ record { asked = stop-slice 1 ("0" ∷ "1" ∷ []); told = refused 6 0 }
+    -- two chains, slices 1x, 1x, 1x, 10, 00, 01
+    ∷ record { asked = stop-slice 2 ("1x" ∷ "1x" ∷ "1x" ∷ "10" ∷ "00" ∷ "01" ∷ []); told = refused 6 0 }
+    -- windows of R with the stop 01
+    ∷ record { asked = window "01" ("10" ∷ "x1" ∷ []); told = numbers (3 ∷ []) }
+    ∷ record { asked = window "01" ("10" ∷ []); told = refused 7 0 }
+    ∷ record { asked = window "01" ("xx" ∷ "xx" ∷ []); told = numbers (3 ∷ []) }
+    ∷ record { asked = window "01" ("11" ∷ "xx" ∷ []); told = refused 7 0 }
+    -- state 7 fits the bits of 11, xx and shows the stop at slice 2, and also at slice 1
+    ∷ record { asked = fitting "01" ("11" ∷ "xx" ∷ []) 7; told = numbers (1 ∷ []) }
+    ∷ record { asked = showing "01" 3 7; told = numbers (1 ∷ 2 ∷ []) }
+    -- the set 1x, 0x
+    ∷ record { asked = set "01" ("1x" ∷ "0x" ∷ []); told = refused 8 1 }
+    -- seed 6 is refused by 11, seed 0 by 12
+    ∷ record { asked = expand "01" 1 (6 ∷ []); told = refused 11 0 }
+    ∷ record { asked = expand "01" 1 (0 ∷ []); told = refused 12 0 }
+    -- the sheet: stop 0x, seeds 3 and 3
+    ∷ record { asked = sheet 2 ("10" ∷ "x1" ∷ "1x" ∷ "1x" ∷ []); told = list-is (slice "0x") (3 ∷ 3 ∷ []) }
+    -- and its list expanded: 10, 11, 10, 11
+    ∷ record { asked = expand "0x" 4 (3 ∷ 3 ∷ []); told = numbers (1 ∷ 3 ∷ 1 ∷ 3 ∷ []) }
+    ∷ []
+
+pub answers : List Row → List Told
+answers [] = []
+answers (r ∷ rs) = answer (r .asked) ∷ answers rs
+
+pub tolds : List Row → List Told
+tolds [] = []
+tolds (r ∷ rs) = r .told ∷ tolds rs
+
+pub starred : answers table ≡ tolds table
+unfolding answers tolds answer refusal states showings of-formed of-seed of-written of-encoded yes digit odd beyond ones onesIn within any leastBelow lastBelow refuse fill step badRegister chainsSlice badCount badMask badChains agrees shows paired badSlice badSlices badStop badWindow badSet badCubes badList tests firstOf judged stoppedFaults windowFaults setFaults cubesFaults stopFaults listFaults reach hop ends greedy filter count better choice settle keep setBy advance stage ended stopFor stopOr6 stopOf fits quiet covers seedOf before far placed closes seedAt ok lowestOr7 windowSeed slicesOf firstStop ending delivers after walk totalled expanding expandList seedsOf planned encoding encodeSet stopped withStop cubesEncoding encodeCubes isCharacter specifiedAt bitAt inFront rowOf
+starred = refl

@@ -1,0 +1,43 @@
+-- `text_lines::keyed` meets its contract. Assumes nothing.
+use borrow.Author.Needs.{needs}
+use Rattle.text_lines.proofs.keyed.Statement.{statement}
+use Rattle.text_lines.proofs.keyed.Tie as tie
+use mathlib.Core.Path.{sym, ap, _∙_}
+use Prim.Native.Nat.{_<_}
+use lib.ListN.{length, drop}
+use Rattle.text_keys.specs.Keys.{longest}
+use Rattle.text_lines.specs.Form.{valued}
+use Rattle.text_lines.proofs.Values.{keyed-long, keyed-value}
+
+longest-requires : tie.Need-longest-requires
+longest-requires c κs = search needs
+
+returns : tie.Need-returns
+returns c = sym (keyed-long _ _ _ (rw (← (c .before .longest .ensures)) (c .if1 .taken)))
+
+name-length-requires : tie.Need-name-length-requires
+name-length-requires c κs = search needs
+
+tail-requires : tie.Need-tail-requires
+tail-requires c κs = search needs
+
+valued-requires : tie.Need-valued-requires
+valued-requires c κs = search needs
+
+returns-2 : tie.Need-returns-2
+returns-2 c =
+    let e = c .before .before .before in
+    let a = e .before .before .before .args in
+    let h : length (a .line .now) < longest (a .key) = rw (← (e .before .longest .ensures)) (e .if1 .left) in
+    c .valued .ensures ∙ ap (valued _ _) (c .before .tail .ensures ∙ ap (λ n. drop n (a .line .now)) (c .before .before .name-length .ensures)) ∙ sym (keyed-value _ _ _ h)
+
+pub keyed-spec : {M : Type 1} → statement M
+keyed-spec =
+    tie.close
+    (tie.spec
+    longest-requires
+    returns
+    name-length-requires
+    tail-requires
+    valued-requires
+    returns-2)

@@ -1,0 +1,66 @@
+-- `text_lines::valued` meets its contract. Assumes nothing.
+use borrow.Author.Needs.{needs}
+use Rattle.text_lines.proofs.valued.Statement.{statement}
+use Rattle.text_lines.proofs.valued.Tie as tie
+use mathlib.Core.Path.{sym, ap, _∙_}
+use Rattle.text_lines.specs.Form.{numbered}
+use Rattle.text_lines.proofs.Values.{valued-decimal, valued-hexadecimal, valued-chainwise}
+
+notation-of-requires : tie.Need-notation-of-requires
+notation-of-requires c κs = search needs
+
+enum-told : tie.Need-enum-told
+enum-told c = search needs
+
+number-requires : tie.Need-number-requires
+number-requires c κs = search needs
+
+numbered-requires : tie.Need-numbered-requires
+numbered-requires c κs = search needs
+
+enum-told-2 : tie.Need-enum-told-2
+enum-told-2 c = search needs
+
+number-requires-2 : tie.Need-number-requires-2
+number-requires-2 c κs = search needs
+
+numbered-requires-2 : tie.Need-numbered-requires-2
+numbered-requires-2 c κs = search needs
+
+enum-told-3 : tie.Need-enum-told-3
+enum-told-3 c = search needs
+
+characters-requires : tie.Need-characters-requires
+characters-requires c κs = search needs
+
+returns : tie.Need-returns
+returns c =
+    let t = c .before .before in
+    c .numbered .ensures ∙ ap (numbered _) (c .before .number .ensures) ∙ sym (valued-decimal _ _ _ (sym (t .before .before .notation-of .ensures) ∙ t .enum-told .given .1))
+
+returns-2 : tie.Need-returns-2
+returns-2 c =
+    let t = c .before .before in
+    c .numbered2 .ensures ∙ ap (numbered _) (c .before .number2 .ensures) ∙ sym (valued-hexadecimal _ _ _ (sym (t .before .before .notation-of .ensures) ∙ t .enum-told2 .given .1))
+
+returns-3 : tie.Need-returns-3
+returns-3 c =
+    let t = c .before in
+    c .characters .ensures ∙ sym (valued-chainwise _ _ _ (sym (t .before .before .notation-of .ensures) ∙ t .enum-told3 .given .1))
+
+pub valued-spec : {M : Type 1} → statement M
+valued-spec =
+    tie.close
+    (tie.spec
+    notation-of-requires
+    enum-told
+    number-requires
+    numbered-requires
+    enum-told-2
+    number-requires-2
+    numbered-requires-2
+    enum-told-3
+    characters-requires
+    returns
+    returns-2
+    returns-3)

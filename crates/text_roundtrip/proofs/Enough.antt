@@ -1,0 +1,17 @@
+-- Only the first 169,441 bytes of the input decide what a program prints: encode-enough, expand-enough.
+-- Assumes nothing.
+use mathlib.Core.Path.{_≡_}
+use mathlib.Core.List.{List}
+use Prim.Native.Nat.{ℕ}
+use lib.ListN.{take}
+use Rattle.text_reading.specs.declared.Kind.the-variants as kinds
+use Rattle.text_reading.proofs.Enough.{enough, enough-reads}
+use Rattle.text.specs.Replies.{encodeReply, expandReply, encodeText, expandText}
+
+pub encode-enough : (s : List ℕ) → encodeText (take enough s) ≡ encodeText s
+unfolding encodeText encodeReply
+encode-enough s = rw (enough-reads kinds.Sheet s)
+
+pub expand-enough : (s : List ℕ) → expandText (take enough s) ≡ expandText s
+unfolding expandText expandReply
+expand-enough s = rw (enough-reads kinds.SeedList s)
