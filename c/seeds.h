@@ -17,12 +17,6 @@
 extern "C" {
 #endif
 
-/* A call that writes: number 0 and the entries written, or a refusal's number and value. */
-typedef struct {
-    size_t number;
-    size_t value;
-} seeds_answer;
-
 /* A stop slice: number 0 and the stop slice; or a refusal's number and value, with a stop slice of 0 and 0. */
 typedef struct {
     size_t number;
@@ -30,6 +24,12 @@ typedef struct {
     uint64_t specified;
     uint64_t bits;
 } seeds_stop_answer;
+
+/* A call that writes: number 0 and the entries written, or a refusal's number and value. */
+typedef struct {
+    size_t number;
+    size_t value;
+} seeds_answer;
 
 /* The seed of a window: number 0 and the seed; or a refusal's number and value, with seed 0. */
 typedef struct {

@@ -11,11 +11,30 @@ use std::fs;
 use std::io;
 use std::path::Path;
 
-/// The crates whose definitions the answers are computed from.
-const CRATES: [&str; 16] = [
-    "bounded", "gf2", "causes", "register", "slices", "checks", "cutting", "stop", "covering",
-    "expander", "encoder", "keys", "lines", "reading", "writing", "text",
+/// The parts of the house whose definitions the answers are computed from.
+const PARTS: [&str; 8] = [
+    "words_",
+    "refusal_",
+    "machine_",
+    "theory_",
+    "stop_",
+    "encoder_",
+    "expander_",
+    "text_",
 ];
+
+/// The crates of these parts that state theorems about whole texts: no answer is computed from them.
+const THEOREMS: [&str; 2] = ["text_readback", "text_roundtrip"];
+
+/// The crates whose definitions the answers are computed from and that have any.
+fn crates(root: &Path) -> io::Result<Vec<String>> {
+    let names = fs::read_dir(root.join("crates"))?
+        .filter_map(|entry| entry.ok()?.file_name().into_string().ok())
+        .filter(|name| PARTS.iter().any(|part| name.starts_with(part)))
+        .filter(|name| !THEOREMS.contains(&name.as_str()))
+        .filter(|name| root.join("crates").join(name).join("specs").is_dir());
+    Ok(names.collect())
+}
 
 /// How many answers one statement has.
 const ROWS: usize = 25;
@@ -23,8 +42,8 @@ const ROWS: usize = 25;
 /// The definitions that unfold, as `use` lines, and the names that they have in the file.
 fn definitions(root: &Path) -> io::Result<(String, Vec<String>)> {
     let mut found: BTreeMap<(String, String), Vec<String>> = BTreeMap::new();
-    for name in CRATES {
-        let mut files: Vec<_> = fs::read_dir(root.join("crates").join(name).join("specs"))?
+    for name in crates(root)? {
+        let mut files: Vec<_> = fs::read_dir(root.join("crates").join(&name).join("specs"))?
             .filter_map(|entry| entry.ok().map(|entry| entry.path()))
             .filter(|path| path.extension().is_some_and(|ending| ending == "antt"))
             .collect();
@@ -41,7 +60,7 @@ fn definitions(root: &Path) -> io::Result<(String, Vec<String>)> {
                 .filter_map(|line| line.trim().strip_prefix("unfoldable pub "));
             for word in names.filter_map(|rest| rest.split_whitespace().next()) {
                 found
-                    .entry((name.to_string(), module.clone()))
+                    .entry((name.clone(), module.clone()))
                     .or_default()
                     .push(word.to_string());
             }
@@ -54,7 +73,7 @@ fn definitions(root: &Path) -> io::Result<(String, Vec<String>)> {
         for word in words {
             // a name that an earlier crate has too gets the crate's name in front
             let own = if taken.contains(word) {
-                format!("{name}-{word}")
+                format!("{}-{word}", name.replace('_', "-"))
             } else {
                 word.clone()
             };
@@ -79,15 +98,15 @@ use mathlib.Core.Path.{_≡_, refl}
 use mathlib.Core.List.{List, [], _∷_}
 use Prim.Native.Nat.{ℕ}
 use lib.Count.{ones, onesIn}
-use Rattle.causes.specs.declared.Cause.the-variants as cause
-use Rattle.causes.specs.declared.Written.the-variants as written
-use Rattle.causes.specs.Outcome.{Outcome}
-use Rattle.register.specs.Machine.{base}
-use Rattle.stop.specs.declared.Formed.{Formed}
-use Rattle.stop.specs.declared.Formed.the-variants as formed
-use Rattle.covering.specs.declared.Seed.{Seed}
-use Rattle.covering.specs.declared.Seed.the-variants as seed
-use Rattle.keys.specs.Bytes.{bytes}
+use Rattle.refusal_causes.specs.declared.Cause.the-variants as cause
+use Rattle.refusal_causes.specs.declared.Written.the-variants as written
+use Rattle.refusal_causes.specs.Outcome.{Outcome}
+use Rattle.machine_settings.specs.Machine.{base}
+use Rattle.stop_slice.specs.declared.Formed.{Formed}
+use Rattle.stop_slice.specs.declared.Formed.the-variants as formed
+use Rattle.theory_covering.specs.declared.Seed.{Seed}
+use Rattle.theory_covering.specs.declared.Seed.the-variants as seed
+use Rattle.text_keys.specs.Bytes.{bytes}
 ";
 
 /// Questions and answers of one kind.

@@ -5,14 +5,6 @@
 // length says, and a buffer that is written must not overlap anything else that is handed in. Nothing checks this:
 // the functions of this package hand in Rust's slices, which are so.
 
-/// The answer of a call that writes into a lent buffer: number 0 with the entries written, or a refusal's number and value.
-#[repr(C)]
-#[derive(Clone, Copy, Debug, PartialEq, Eq)]
-pub struct Answer {
-    pub number: usize,
-    pub value: usize,
-}
-
 /// Number 0 with the stop slice; or a refusal's number and value, with a stop slice of 0 and 0.
 #[repr(C)]
 #[derive(Clone, Copy, Debug, PartialEq, Eq)]
@@ -21,6 +13,14 @@ pub struct StopAnswer {
     pub value: usize,
     pub specified: u64,
     pub bits: u64,
+}
+
+/// The answer of a call that writes into a lent buffer: number 0 with the entries written, or a refusal's number and value.
+#[repr(C)]
+#[derive(Clone, Copy, Debug, PartialEq, Eq)]
+pub struct Answer {
+    pub number: usize,
+    pub value: usize,
 }
 
 /// Number 0 with the seed of the window; or a refusal's number and value, with seed 0.

@@ -1,5 +1,5 @@
-// The declarations of src/raw.rs and of c/seeds.h against the library's own source, crates/seeds/src/lib.rt: every struct and
-// every function, by name, order, parameters and types. A slice `x: &[T]` is there a pointer `x` and a number `x_len`.
+// The declarations of src/raw.rs and of c/seeds.h against the library's own source: every function of crates/seeds/src/lib.rt and every
+// struct that it answers with, by name, parameters and types. A slice `x: &[T]` is there a pointer `x` and a number `x_len`.
 
 use std::fs;
 use std::path::Path;
@@ -74,12 +74,11 @@ fn items(source: &str, mark: &str, open: char, close: char) -> Vec<Item> {
 }
 
 fn structs() -> Vec<Item> {
-    items(
-        &file("crates/seeds/src/lib.rt"),
-        "#[repr(C)] pub struct ",
-        '{',
-        '}',
-    )
+    let mark = "#[repr(C)] pub struct ";
+    ["face_numbers", "face_answers"]
+        .iter()
+        .flat_map(|name| items(&file(&format!("crates/{name}/src/lib.rt")), mark, '{', '}'))
+        .collect()
 }
 
 fn functions() -> Vec<Item> {

@@ -7,9 +7,9 @@ use Prim.Native.Nat.{ℕ}
 use Prim.Native.String.{String}
 use Rattle.machine_slices.specs.declared.TestSlice.{TestSlice}
 use Rattle.text_keys.specs.Bytes.{bytes}
-use Rattle.text_lines.specs.Characters.{rowOf}
-use Rattle.text_lines.specs.declared.Row.{Row}
-use Rattle.text_lines.specs.declared.Row.the-variants as rows
+use Rattle.text_characters.specs.Characters.{rowOf}
+use Rattle.text_characters.specs.declared.Row.{Row}
+use Rattle.text_characters.specs.declared.Row.the-variants as rows
 
 abbrev pub ofRow : Row → TestSlice
 ofRow (rows.Slice s) = s

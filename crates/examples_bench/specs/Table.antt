@@ -20,29 +20,30 @@ use Rattle.refusal_causes.specs.declared.Written.the-variants as written
 use Rattle.refusal_causes.specs.Sheet.{refusalOf}
 use Rattle.refusal_causes.specs.Outcome.{Outcome, refuse, fill}
 use Rattle.machine_register.specs.Register.{step, badRegister}
-use Rattle.machine_register.specs.Chains.{slice as chainsSlice, badCount, badMask, badChains}
-use Rattle.machine_register.specs.Machine.{Machine, base, machine}
+use Rattle.machine_chains.specs.Chains.{slice as chainsSlice, badCount, badMask, badChains}
+use Rattle.machine_settings.specs.Machine.{Machine, base, machine}
 use Rattle.machine_slices.specs.declared.TestSlice.{TestSlice}
 use Rattle.machine_slices.specs.Slices.{agrees, shows, paired, badSlice, badSlices, badStop}
-use Rattle.refusal_checks.specs.Lengths.{badWindow, badSet, badCubes, badList}
-use Rattle.refusal_checks.specs.Order.{tests, firstOf, judged}
+use Rattle.refusal_lengths.specs.Lengths.{badWindow, badSet, badCubes, badList}
+use Rattle.refusal_order.specs.Order.{tests, firstOf, judged}
 use Rattle.refusal_checks.specs.Calls.{stoppedFaults, windowFaults, setFaults, cubesFaults, stopFaults, listFaults}
 use Rattle.theory_cutting.specs.Greedy.{reach, hop, ends, greedy}
-use Rattle.stop.specs.Steps.{filter, count, better, choice, settle, keep, setBy, advance, stage, ended, stopFor}
-use Rattle.stop.specs.Entry.{stopOr6, stopOf}
-use Rattle.stop.specs.declared.Formed.{Formed}
-use Rattle.stop.specs.declared.Formed.the-variants as formed
+use Rattle.stop_steps.specs.Steps.{filter, count, better, choice, settle, keep, setBy, advance, stage, ended, stopFor}
+use Rattle.stop_slice.specs.Entry.{stopOr6, stopOf}
+use Rattle.stop_slice.specs.declared.Formed.{Formed}
+use Rattle.stop_slice.specs.declared.Formed.the-variants as formed
 use Rattle.theory_covering.specs.Covering.{fits, quiet, covers, seedOf}
 use Rattle.theory_covering.specs.Windows.{before, far, placed, closes, seedAt, ok}
 use Rattle.theory_covering.specs.Single.{lowestOr7, windowSeed}
 use Rattle.theory_covering.specs.declared.Seed.{Seed}
 use Rattle.theory_covering.specs.declared.Seed.the-variants as seed
-use Rattle.expander.specs.Run.{slicesOf, firstStop, ending, delivers}
-use Rattle.expander.specs.Expanding.{after, walk, totalled, expanding, expandList}
-use Rattle.encoder.specs.Encoding.{seedsOf, planned, encoding, encodeSet, CubesOutcome, stopped, withStop, cubesEncoding, encodeCubes}
-use Rattle.encoder.specs.declared.Encoded.{Encoded}
-use Rattle.encoder.specs.declared.Encoded.the-variants as encoded
-use Rattle.text_lines.specs.Characters.{isCharacter, specifiedAt, bitAt, inFront, rowOf}
+use Rattle.expander_meaning.specs.Run.{slicesOf, firstStop, ending, delivers}
+use Rattle.expander_meaning.specs.Expanding.{after, walk, totalled, expanding, expandList}
+use Rattle.encoder_meaning.specs.Encoding.{seedsOf, planned, encoding, encodeSet}
+use Rattle.encoder_cubes.specs.Cubes.{CubesOutcome, stopped, withStop, cubesEncoding, encodeCubes}
+use Rattle.encoder_cubes.specs.declared.Encoded.{Encoded}
+use Rattle.encoder_cubes.specs.declared.Encoded.the-variants as encoded
+use Rattle.text_characters.specs.Characters.{isCharacter, specifiedAt, bitAt, inFront, rowOf}
 use Rattle.examples_bench.specs.Reading.{slice, specifieds, bitses}
 
 pub data Question : Type 0 where

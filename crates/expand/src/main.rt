@@ -6,7 +6,7 @@ ghost use mathlib.Core.List.{_++_};
 ghost use Prim.Native.Nat.{_≤_};
 ghost use lib.ListN.{length, drop};
 ghost use Rattle.io.specs.Counts.{Counts};
-ghost use Rattle.text.specs.Replies.{expandText};
+ghost use Rattle.text_expand.specs.ExpandText.{expandText};
 
 // What the program prints for a text, at the front of a buffer that has space for every answer: how many bytes it is.
 fn reply(text: &[u8], out: &mut [u8]) -> usize
@@ -15,11 +15,11 @@ fn reply(text: &[u8], out: &mut [u8]) -> usize
     ensures bytes { λ _. ⌜ now (out .exit) ≡ expandText (now (text .entry)) ++ drop (length (expandText (now (text .entry)))) (now (out .entry)) ⌝ }
     ensures within { λ r. ⌜ Counts r (now (out .exit)) ⌝ }
 {
-    let answer = text::expand_text(text, out);
-    text::print(answer, out)
+    let answer = text_expand::expand_text(text, out);
+    text_replies::print(answer, out)
 }
 
-// Reads the text into a buffer that holds every byte that can decide the answer (`enough` in reading); what follows them is not read. How many bytes there are.
+// Reads the text into a buffer that holds every byte that can decide the answer (`enough` of `text_reading`); what follows them is not read. How many bytes there are.
 fn read_text(buffer: &mut [u8]) -> usize
     requires { ⌜ 169441 ≤ length (now buffer) ⌝ }
     ensures { λ r. ⌜ Counts r (now (buffer .exit)) ⌝ }

@@ -1,5 +1,3 @@
--- The laws of the register and its chains.
-pub mod Steps
-pub mod Slices
-pub mod Machine
+-- The laws of the register.
 pub mod Causes
+pub mod Steps

@@ -1,4 +1,2 @@
--- The shift register, its chains, and the two together.
+-- The shift register.
 pub mod Register
-pub mod Chains
-pub mod Machine

@@ -1,5 +1,2 @@
--- The laws of lengths, of the order of causes, and of slices with their stop slice.
-
-pub mod Lengths
-pub mod Order
+-- The laws of slices with their stop slice.
 pub mod Stopped

@@ -7,17 +7,17 @@ use mathlib.Core.Bool.{Bool, false}
 use mathlib.Core.List.{List}
 use Prim.Native.Nat.{ℕ, _≤_}
 use lib.ListN.{length}
-use Rattle.machine_register.specs.declared.Settings.{Settings}
+use Rattle.machine_settings.specs.declared.Settings.{Settings}
 use Rattle.machine_register.specs.Register.{badRegister}
-use Rattle.machine_register.specs.Chains.{badChains}
-use Rattle.machine_register.proofs.Causes.{chains-within}
+use Rattle.machine_chains.specs.Chains.{badChains}
+use Rattle.machine_chains.proofs.Causes.{chains-within}
 use Rattle.machine_slices.specs.declared.TestSlice.{TestSlice}
 use Rattle.machine_slices.specs.Slices.{badSlices, badStop}
-use Rattle.refusal_checks.specs.Lengths.{badWindow, badSet}
-use Rattle.refusal_checks.specs.Order.{judged}
+use Rattle.refusal_lengths.specs.Lengths.{badWindow, badSet}
+use Rattle.refusal_order.specs.Order.{judged}
 use Rattle.refusal_checks.specs.Calls.{stoppedFaults, windowFaults, setFaults}
-use Rattle.refusal_checks.specs.declared.Verdict.the-variants.{WellFormed}
-use Rattle.refusal_checks.proofs.Order.{formed-well}
+use Rattle.refusal_order.specs.declared.Verdict.the-variants.{WellFormed}
+use Rattle.refusal_order.proofs.Order.{formed-well}
 
 pub record StoppedFormed (bad : Bool) (g : Settings) (masks : List ℕ) (st : TestSlice) (ps bs : List ℕ) : Type 0 where
   pub register : badRegister (g .cells) (g .taps) ≡ false

@@ -9,13 +9,13 @@ use mathlib.Core.Bool.{Bool, false}
 use mathlib.Core.List.{List}
 use Prim.Native.Nat.{ℕ}
 use lib.ListN.{length}
-use Rattle.machine_register.specs.declared.Settings.{Settings}
+use Rattle.machine_settings.specs.declared.Settings.{Settings}
 use Rattle.machine_register.specs.Register.{badRegister}
-use Rattle.machine_register.specs.Chains.{badCount, badChains}
+use Rattle.machine_chains.specs.Chains.{badCount, badChains}
 use Rattle.machine_slices.specs.declared.TestSlice.{TestSlice}
 use Rattle.machine_slices.specs.Slices.{badSlices, badStop}
-use Rattle.refusal_checks.specs.Lengths.{badWindow, badSet, badCubes, badList}
-use Rattle.refusal_checks.specs.declared.Faults.{Faults}
+use Rattle.refusal_lengths.specs.Lengths.{badWindow, badSet, badCubes, badList}
+use Rattle.refusal_order.specs.declared.Faults.{Faults}
 
 unfoldable pub stoppedFaults : Bool → Settings → List ℕ → TestSlice → List ℕ → List ℕ → Faults
 stoppedFaults lengths g masks stop specified bits = record {

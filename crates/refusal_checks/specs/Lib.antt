@@ -1,4 +1,2 @@
--- Causes 1 to 5 of a call, and their order.
-pub mod Lengths
-pub mod Order
+-- Which causes hold for what each kind of call hands in.
 pub mod Calls

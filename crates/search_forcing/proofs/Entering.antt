@@ -9,12 +9,13 @@ use mathlib.Core.List.{List, [], _∷_, _++_}
 use Prim.Native.Nat.{ℕ, zero, suc}
 use lib.ListN.{length, take, drop}
 use Rattle.search_space.specs.declared.Space.{Space}
-use Rattle.search_space.proofs.Restricting.{restricted-left}
-use Rattle.search.specs.declared.Pattern.{Pattern}
-use Rattle.search.specs.Clauses.{row}
-use Rattle.search_forcing.specs.Forcing.{across, forced, forcedVectors, left, narrowed}
-use Rattle.search_forcing.specs.declared.Shows.{Shows}
-use Rattle.search_forcing.specs.declared.Shows.the-variants.{Always, Unless, Neither}
+use Rattle.search_restrict.proofs.Restricting.{restricted-left}
+use Rattle.search_rows.specs.declared.Pattern.{Pattern}
+use Rattle.search_rows.specs.Clauses.{row}
+use Rattle.search_showing.specs.Showing.{across}
+use Rattle.search_forcing.specs.Forcing.{forced, forcedVectors, left, narrowed}
+use Rattle.search_showing.specs.declared.Shows.{Shows}
+use Rattle.search_showing.specs.declared.Shows.the-variants.{Always, Unless, Neither}
 
 pub take-rest : (n : ℕ) (l : List ℕ) → l ≡ take n l ++ drop (length (take n l)) l
 take-rest zero l = refl

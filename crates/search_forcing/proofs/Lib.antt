@@ -1,5 +1,4 @@
 -- The laws of what a row forces.
 
-pub mod Columns
 pub mod Entering
 pub mod Forcing

@@ -1,77 +1,12 @@
 // What a row of a table forces in a space of states, where no member may show the pattern in the row: an equation, or that no member is left.
-use search::Pattern;
+use search_rows::Pattern;
+use search_showing::Shows;
 use search_space::Space;
 ghost use mathlib.Core.Path.{_≡_};
 ghost use mathlib.Core.List.{_++_};
-ghost use Prim.Native.Nat.{_+_, _*_, _≤_, _<_};
+ghost use Prim.Native.Nat.{_+_, _*_, _≤_};
 ghost use lib.ListN.{drop, length, take};
-ghost use Rattle.search.specs.Clauses.{row as rowOf};
-ghost use Rattle.search_forcing.specs.Forcing.{across as acrossOf, column as columnOf, forced, forcedVectors, together as togetherOf};
-
-// How the members of a space show a row: all do, or all do unless a mask reads a bit, or neither of the two is known.
-enum Shows {
-    Always,
-    Unless(u64, u64),
-    Neither,
-}
-
-// How they show a row of one column, which has a mask and the pattern's bit.
-fn column(mask: u64, bit: u64, lowest: u64, vectors: &[u64], free: usize) -> Shows
-    requires { ⌜ bit < 2 ⌝ }
-    ensures { λ r. ⌜ r ≡ columnOf mask bit lowest (take free (now (vectors .entry))) ⌝ }
-{
-    if search_space::splits(vectors, free, mask) {
-        return Shows::Unless(mask, 1 - bit);
-    }
-    if words_gf2::odd(lowest, mask) == bit {
-        return Shows::Always;
-    }
-    Shows::Neither
-}
-
-// How they show two parts of a row in one.
-fn together(one: Shows, other: Shows) -> Shows
-    ensures { λ r. ⌜ r ≡ togetherOf one other ⌝ }
-{
-    match one {
-        Shows::Always => other,
-        Shows::Unless(mask, bit) => match other {
-            Shows::Always => Shows::Unless(mask, bit),
-            Shows::Unless(_, _) => Shows::Neither,
-            Shows::Neither => Shows::Neither,
-        },
-        Shows::Neither => Shows::Neither,
-    }
-}
-
-// How they show a row of the table. It ends at the first column from which on neither can hold.
-fn across(
-    pattern: Pattern,
-    table: &[u64],
-    row: usize,
-    lowest: u64,
-    vectors: &[u64],
-    free: usize,
-) -> Shows
-    requires { ⌜ row * pattern .columns + pattern .columns ≤ length (now table) ⌝ }
-    ensures { λ r. ⌜ r ≡ acrossOf (rowOf (pattern .columns) (now (table .entry)) row) (pattern .bits) lowest (take free (now (vectors .entry))) ⌝ }
-{
-    let columns = pattern.columns;
-    let first = row * columns;
-    let mut bits = pattern.bits;
-    let mut shows = Shows::Always;
-    let mut place: usize = 0;
-    while place < columns {
-        let one = column(table[first + place], bits % 2, lowest, vectors, free);
-        shows = together(shows, one);
-        if let Shows::Neither = shows {
-            return Shows::Neither;
-        }
-        bits = bits / 2;
-        place += 1;
-    }
-    shows
-}
+ghost use Rattle.search_forcing.specs.Forcing.{forced, forcedVectors};
 
 // The space, and in the buffer its vectors, where no member may show the pattern in a row: what the row forces is entered. Each member that does not show the row is kept.
 // An inner function: its callers show that the table has the row.
@@ -86,14 +21,14 @@ pub fn force_row(
     ensures answer { λ r. ⌜ r ≡ forced pattern (now (table .entry)) row (take (space .free) (now (vectors .entry))) space ⌝ }
     ensures buffer { λ _. ⌜ now (vectors .exit) ≡ forcedVectors pattern (now (table .entry)) row (take (space .free) (now (vectors .entry))) space ++ drop (length (forcedVectors pattern (now (table .entry)) row (take (space .free) (now (vectors .entry))) space)) (now (vectors .entry)) ⌝ }
 {
-    let shows = across(pattern, table, row, space.lowest, vectors, space.free);
+    let shows = search_showing::across(pattern, table, row, space.lowest, vectors, space.free);
     match shows {
         Shows::Always => Space {
             lowest: space.lowest,
             free: space.free,
             some: false,
         },
-        Shows::Unless(mask, bit) => search_space::restrict(vectors, space, mask, bit),
+        Shows::Unless(mask, bit) => search_restrict::restrict(vectors, space, mask, bit),
         Shows::Neither => space,
     }
 }

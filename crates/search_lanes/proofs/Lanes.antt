@@ -26,8 +26,8 @@ use Rattle.words_gf2.specs.Words.{digit, odd}
 use Rattle.words_gf2.proofs.Digits.{digit-lt, digit-none, digit-wide, put-same, put-other, put-below, words-equal}
 use Rattle.words_gf2.proofs.Xor.{digit-xor}
 use Rattle.words_gf2.proofs.Parity.{odd-lt, xor-odd}
-use Rattle.search_space.specs.Space.{choose, pick}
-use Rattle.search_space.proofs.Numbers.{pick-last}
+use Rattle.search_members.specs.Members.{choose, pick}
+use Rattle.search_members.proofs.Numbers.{pick-last}
 use Rattle.search_lanes.specs.Lanes.{wordOf, readings}
 
 module _ (f : ℕ → ℕ) (bits : (i : ℕ) → f i < 2) where

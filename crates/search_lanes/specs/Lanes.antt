@@ -4,7 +4,7 @@
 use mathlib.Core.List.{List}
 use Prim.Native.Nat.{ℕ, zero, suc, _+_, _*_, _^_}
 use Rattle.words_gf2.specs.Words.{odd}
-use Rattle.search_space.specs.Space.{pick}
+use Rattle.search_members.specs.Members.{pick}
 
 unfoldable pub wordOf : (ℕ → ℕ) → ℕ → ℕ
 wordOf f zero = 0

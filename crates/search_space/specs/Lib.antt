@@ -1,4 +1,2 @@
--- Spaces of states, and a space restricted by an equation.
-
+-- Spaces of states.
 pub mod Space
-pub mod Code

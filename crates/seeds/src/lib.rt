@@ -1,76 +1,38 @@
-// The library's face for C and Rust: entries without `requires`, each a few lines over the crates below.
-use encoder::Encoded;
-use machine_register::Register;
-use machine_slices::TestSlice;
-use refusal_causes::Written;
-use refusal_checks::Verdict;
-use stop::Formed;
-use theory_covering::Seed;
+// The library's face for C and Rust: entries without `requires`, each with its whole contract, passed on to the crate of its kind: `face_numbers`, `face_checks`, `face_words` or `face_texts`.
+use face_answers::Answer;
+use face_answers::CubesAnswer;
+use face_answers::SeedAnswer;
+use face_answers::TextAnswer;
+use face_numbers::StopAnswer;
 ghost use mathlib.Core.Path.{_≡_};
 ghost use lib.ListN.{take};
 ghost use Rattle.machine_register.specs.Register.{stepOf};
-ghost use Rattle.machine_register.specs.Machine.{base};
-ghost use Rattle.machine_register.specs.Chains.{slice as sliceOf};
+ghost use Rattle.machine_settings.specs.Machine.{base};
+ghost use Rattle.machine_chains.specs.Chains.{slice as sliceOf};
 ghost use Rattle.machine_slices.specs.Slices.{agrees, shows};
-ghost use Rattle.refusal_checks.specs.Order.{judged};
+ghost use Rattle.refusal_order.specs.Order.{judged};
 ghost use Rattle.refusal_checks.specs.Calls.{windowFaults, setFaults, cubesFaults, stopFaults, listFaults};
-ghost use Rattle.stop.specs.Lookup.{inCount};
-ghost use Rattle.stop.specs.Entry.{stopOf};
-ghost use Rattle.expander.specs.Expanding.{expandList};
+ghost use Rattle.stop_steps.specs.Lookup.{inCount};
+ghost use Rattle.stop_slice.specs.Entry.{stopOf};
+ghost use Rattle.expander_meaning.specs.Expanding.{expandList};
 ghost use Rattle.theory_covering.specs.Single.{windowSeed, WindowMeaning};
-ghost use Rattle.encoder.specs.Encoding.{encodeSet, encodeCubes};
-ghost use Rattle.encoder.specs.Meaning.{SetMeaning, CubesMeaning};
-ghost use Rattle.text.specs.Calls.{encodeCall, expandCall};
-ghost use Rattle.seeds.specs.Face.{answerOf, cubesAnswerOf, numberOf, registerOf, seedAnswerOf, stopAnswerOf, testSliceOf, textAnswerOf};
-
-// The answer of a call that writes into a lent buffer: number 0 with the entries written, or the number and value of the refusal.
-#[repr(C)]
-pub struct Answer {
-    pub number: usize,
-    pub value: usize,
-}
-
-// The answer of the call for a stop slice: number 0 with the stop slice, or the number and value of the refusal, and no position.
-#[repr(C)]
-pub struct StopAnswer {
-    pub number: usize,
-    pub value: usize,
-    pub specified: u64,
-    pub bits: u64,
-}
-
-// The answer of the call for a window's seed: number 0 with the seed, or the number and value of the refusal, and seed 0.
-#[repr(C)]
-pub struct SeedAnswer {
-    pub number: usize,
-    pub value: usize,
-    pub seed: u64,
-}
-
-// The answer of the call for cubes: number 0 with the seeds written and the stop slice of the steps, or the number and value of the refusal, and no position.
-#[repr(C)]
-pub struct CubesAnswer {
-    pub number: usize,
-    pub value: usize,
-    pub specified: u64,
-    pub bits: u64,
-}
-
-// The answer of a text call: number 0 with the bytes written and how many seeds or slices they say, or the number and value of the refusal, and 0.
-#[repr(C)]
-pub struct TextAnswer {
-    pub number: usize,
-    pub value: usize,
-    pub entries: usize,
-}
+ghost use Rattle.encoder_meaning.specs.Encoding.{encodeSet};
+ghost use Rattle.encoder_cubes.specs.Cubes.{encodeCubes};
+ghost use Rattle.encoder_meaning.specs.Meaning.{SetMeaning};
+ghost use Rattle.encoder_cubes.specs.Meaning.{CubesMeaning};
+ghost use Rattle.text_encode.specs.EncodeText.{encodeCall};
+ghost use Rattle.text_expand.specs.ExpandText.{expandCall};
+ghost use Rattle.face_values.specs.Values.{registerOf, testSliceOf};
+ghost use Rattle.face_numbers.specs.Stop.{stopAnswerOf};
+ghost use Rattle.face_answers.specs.Answers.{answerOf, cubesAnswerOf, seedAnswerOf, textAnswerOf};
+ghost use Rattle.face_checks.specs.Verdicts.{numberOf};
 
 // One step of the register from a state; of more than 64 cells the first 64 count.
 #[no_mangle]
 pub extern "C" fn seeds_step(cells: usize, taps: u64, state: u64) -> u64
     ensures { λ r. ⌜ r ≡ stepOf (registerOf cells taps) state ⌝ }
 {
-    let r = Register { cells, taps };
-    r.step(state)
+    face_numbers::step(cells, taps, state)
 }
 
 // The slice of a state; of more than 64 masks the first 64 count.
@@ -78,7 +40,7 @@ pub extern "C" fn seeds_step(cells: usize, taps: u64, state: u64) -> u64
 pub extern "C" fn seeds_slice(masks: &[u64], state: u64) -> u64
     ensures { λ r. ⌜ r ≡ sliceOf (take 64 (now (masks .entry))) state ⌝ }
 {
-    machine_register::slice(masks, state)
+    face_numbers::slice(masks, state)
 }
 
 // Whether a slice agrees with a test slice.
@@ -86,7 +48,7 @@ pub extern "C" fn seeds_slice(masks: &[u64], state: u64) -> u64
 pub extern "C" fn seeds_agrees(specified: u64, bits: u64, slice: u64) -> bool
     ensures { λ r. ⌜ r ≡ agrees (testSliceOf specified bits) slice ⌝ }
 {
-    machine_slices::agrees(TestSlice { specified, bits }, slice)
+    face_numbers::agrees(specified, bits, slice)
 }
 
 // Whether a slice shows the stop slice.
@@ -94,24 +56,7 @@ pub extern "C" fn seeds_agrees(specified: u64, bits: u64, slice: u64) -> bool
 pub extern "C" fn seeds_shows(stop_specified: u64, stop_bits: u64, slice: u64) -> bool
     ensures { λ r. ⌜ r ≡ shows (testSliceOf «stop_specified» «stop_bits») slice ⌝ }
 {
-    let stop = TestSlice {
-        specified: stop_specified,
-        bits: stop_bits,
-    };
-    machine_slices::shows(stop, slice)
-}
-
-// The number of a verdict: 0 where nothing is refused.
-fn number(verdict: Verdict) -> usize
-    ensures { λ r. ⌜ r ≡ numberOf verdict ⌝ }
-{
-    match verdict {
-        Verdict::WellFormed => 0,
-        Verdict::Refused(cause) => {
-            let refusal = refusal_causes::refusal_of(cause);
-            refusal.number
-        }
-    }
+    face_numbers::shows(stop_specified, stop_bits, slice)
 }
 
 // The number of the first of causes 1 to 5 that refuses a window, or 0.
@@ -127,17 +72,15 @@ pub extern "C" fn seeds_check_window(
 ) -> usize
     ensures { λ r. ⌜ r ≡ numberOf (judged (windowFaults (base cells taps) (now (masks .entry)) (testSliceOf «stop_specified» «stop_bits») (now (specified .entry)) (now (bits .entry)))) ⌝ }
 {
-    let stop = TestSlice {
-        specified: stop_specified,
-        bits: stop_bits,
-    };
-    number(refusal_checks::check_window(
-        machine_register::base(cells, taps),
+    face_checks::check_window(
+        cells,
+        taps,
         masks,
-        stop,
+        stop_specified,
+        stop_bits,
         specified,
         bits,
-    ))
+    )
 }
 
 // The number of the first of causes 1 to 5 that refuses a set with its stop slice, or 0.
@@ -153,17 +96,15 @@ pub extern "C" fn seeds_check_set(
 ) -> usize
     ensures { λ r. ⌜ r ≡ numberOf (judged (setFaults (base cells taps) (now (masks .entry)) (testSliceOf «stop_specified» «stop_bits») (now (specified .entry)) (now (bits .entry)))) ⌝ }
 {
-    let stop = TestSlice {
-        specified: stop_specified,
-        bits: stop_bits,
-    };
-    number(refusal_checks::check_set(
-        machine_register::base(cells, taps),
+    face_checks::check_set(
+        cells,
+        taps,
         masks,
-        stop,
+        stop_specified,
+        stop_bits,
         specified,
         bits,
-    ))
+    )
 }
 
 // The number of the first of causes 1 to 4 that refuses a set that comes as cubes, or 0.
@@ -178,13 +119,7 @@ pub extern "C" fn seeds_check_cubes(
 ) -> usize
     ensures { λ r. ⌜ r ≡ numberOf (judged (cubesFaults (base cells taps) (now (masks .entry)) depth (now (specified .entry)) (now (bits .entry)))) ⌝ }
 {
-    number(refusal_checks::check_cubes(
-        machine_register::base(cells, taps),
-        masks,
-        depth,
-        specified,
-        bits,
-    ))
+    face_checks::check_cubes(cells, taps, masks, depth, specified, bits)
 }
 
 // The number of the first of causes 2 to 4 that refuses a set whose stop slice is asked for, or 0.
@@ -192,7 +127,7 @@ pub extern "C" fn seeds_check_cubes(
 pub extern "C" fn seeds_check_stop(chains: usize, specified: &[u64], bits: &[u64]) -> usize
     ensures { λ r. ⌜ r ≡ numberOf (judged (stopFaults chains (now (specified .entry)) (now (bits .entry)))) ⌝ }
 {
-    number(refusal_checks::check_stop(chains, specified, bits))
+    face_checks::check_stop(chains, specified, bits)
 }
 
 // The number of the first of causes 1, 2, 3 and 5 that refuses a seed list before its seeds are run, or 0.
@@ -208,59 +143,7 @@ pub extern "C" fn seeds_check_list(
 ) -> usize
     ensures { λ r. ⌜ r ≡ numberOf (judged (listFaults (base cells taps) (now (masks .entry)) (testSliceOf «stop_specified» «stop_bits») slices seeds)) ⌝ }
 {
-    let stop = TestSlice {
-        specified: stop_specified,
-        bits: stop_bits,
-    };
-    number(refusal_checks::check_list(
-        machine_register::base(cells, taps),
-        masks,
-        stop,
-        slices,
-        seeds,
-    ))
-}
-
-// The number and value of a call that writes.
-fn answer_of(written: Written) -> Answer
-    ensures { λ r. ⌜ r ≡ answerOf written ⌝ }
-{
-    match written {
-        Written::Count(count) => Answer {
-            number: 0,
-            value: count,
-        },
-        Written::Refused(cause) => {
-            let refusal = refusal_causes::refusal_of(cause);
-            Answer {
-                number: refusal.number,
-                value: refusal.value,
-            }
-        }
-    }
-}
-
-// The number, value and stop slice of a call for one.
-fn stop_answer_of(formed: Formed) -> StopAnswer
-    ensures { λ r. ⌜ r ≡ stopAnswerOf formed ⌝ }
-{
-    match formed {
-        Formed::Stop(stop) => StopAnswer {
-            number: 0,
-            value: 0,
-            specified: stop.specified,
-            bits: stop.bits,
-        },
-        Formed::Refused(cause) => {
-            let refusal = refusal_causes::refusal_of(cause);
-            StopAnswer {
-                number: refusal.number,
-                value: refusal.value,
-                specified: 0,
-                bits: 0,
-            }
-        }
-    }
+    face_checks::check_list(cells, taps, masks, stop_specified, stop_bits, slices, seeds)
 }
 
 // How many test slices have the stop's bit at each position of the stop that is set; of two lists unequally long, the shorter counts. Under a stop slice with a bit that is not specified, none has.
@@ -273,11 +156,7 @@ pub extern "C" fn seeds_count_in(
 ) -> usize
     ensures { λ r. ⌜ r ≡ inCount (testSliceOf «stop_specified» «stop_bits») (now (specified .entry)) (now (bits .entry)) ⌝ }
 {
-    let stop = TestSlice {
-        specified: stop_specified,
-        bits: stop_bits,
-    };
-    stop::count_in(stop, specified, bits)
+    face_numbers::count_in(stop_specified, stop_bits, specified, bits)
 }
 
 // The stop slice of a set: causes 2, 3, 4, then 6.
@@ -285,7 +164,7 @@ pub extern "C" fn seeds_count_in(
 pub extern "C" fn seeds_stop(chains: usize, specified: &[u64], bits: &[u64]) -> StopAnswer
     ensures { λ r. ⌜ r ≡ stopAnswerOf (stopOf chains (now (specified .entry)) (now (bits .entry))) ⌝ }
 {
-    stop_answer_of(stop::stop_slice(chains, specified, bits))
+    face_numbers::stop_slice(chains, specified, bits)
 }
 
 // The slices of a seed list, written into the buffer: causes 1, 2, 3, 5, then 10, 11, 12 of the first refused seed, then 14, then 9.
@@ -303,55 +182,16 @@ pub extern "C" fn seeds_expand(
     ensures answer { λ r. ⌜ r ≡ answerOf (expandList (base cells taps) (now (masks .entry)) (testSliceOf «stop_specified» «stop_bits») slices (now (seeds .entry)) (now (out .entry)) .answer) ⌝ }
     ensures buffer { λ _. ⌜ now (out .exit) ≡ expandList (base cells taps) (now (masks .entry)) (testSliceOf «stop_specified» «stop_bits») slices (now (seeds .entry)) (now (out .entry)) .buffer ⌝ }
 {
-    let stop = TestSlice {
-        specified: stop_specified,
-        bits: stop_bits,
-    };
-    answer_of(expander::expand_list(cells, taps, masks, stop, slices, seeds, out))
-}
-
-// The number, value and seed of a call for one.
-fn seed_answer_of(seed: Seed) -> SeedAnswer
-    ensures { λ r. ⌜ r ≡ seedAnswerOf seed ⌝ }
-{
-    match seed {
-        Seed::Lowest(state) => SeedAnswer {
-            number: 0,
-            value: 0,
-            seed: state,
-        },
-        Seed::Refused(cause) => {
-            let refusal = refusal_causes::refusal_of(cause);
-            SeedAnswer {
-                number: refusal.number,
-                value: refusal.value,
-                seed: 0,
-            }
-        }
-    }
-}
-
-// The number, value and stop slice of a call for cubes.
-fn cubes_answer_of(encoded: Encoded) -> CubesAnswer
-    ensures { λ r. ⌜ r ≡ cubesAnswerOf encoded ⌝ }
-{
-    match encoded {
-        Encoded::Seeds(slice, seeds) => CubesAnswer {
-            number: 0,
-            value: seeds,
-            specified: slice.specified,
-            bits: slice.bits,
-        },
-        Encoded::Refused(cause) => {
-            let refusal = refusal_causes::refusal_of(cause);
-            CubesAnswer {
-                number: refusal.number,
-                value: refusal.value,
-                specified: 0,
-                bits: 0,
-            }
-        }
-    }
+    face_words::expand(
+        cells,
+        taps,
+        masks,
+        stop_specified,
+        stop_bits,
+        slices,
+        seeds,
+        out,
+    )
 }
 
 // The seed of a window: causes 1 to 5, then 7.
@@ -368,11 +208,15 @@ pub extern "C" fn seeds_window(
     ensures answer { λ r. ⌜ r ≡ seedAnswerOf (windowSeed (base cells taps) (now (masks .entry)) (testSliceOf «stop_specified» «stop_bits») (now (specified .entry)) (now (bits .entry))) ⌝ }
     ensures meaning { λ _. ⌜ WindowMeaning (base cells taps) (now (masks .entry)) (testSliceOf «stop_specified» «stop_bits») (now (specified .entry)) (now (bits .entry)) (windowSeed (base cells taps) (now (masks .entry)) (testSliceOf «stop_specified» «stop_bits») (now (specified .entry)) (now (bits .entry))) ⌝ }
 {
-    let stop = TestSlice {
-        specified: stop_specified,
-        bits: stop_bits,
-    };
-    seed_answer_of(window::window_seed(cells, taps, masks, stop, specified, bits))
+    face_words::window_seed(
+        cells,
+        taps,
+        masks,
+        stop_specified,
+        stop_bits,
+        specified,
+        bits,
+    )
 }
 
 // The seeds of a set with its stop slice, written into the buffer: causes 1 to 5, then 8, then 9.
@@ -391,11 +235,16 @@ pub extern "C" fn seeds_encode_set(
     ensures buffer { λ _. ⌜ now (out .exit) ≡ encodeSet (base cells taps) (now (masks .entry)) (testSliceOf «stop_specified» «stop_bits») (now (specified .entry)) (now (bits .entry)) (now (out .entry)) .buffer ⌝ }
     ensures meaning { λ _. ⌜ SetMeaning (base cells taps) (now (masks .entry)) (testSliceOf «stop_specified» «stop_bits») (now (specified .entry)) (now (bits .entry)) (now (out .entry)) (encodeSet (base cells taps) (now (masks .entry)) (testSliceOf «stop_specified» «stop_bits») (now (specified .entry)) (now (bits .entry)) (now (out .entry))) ⌝ }
 {
-    let stop = TestSlice {
-        specified: stop_specified,
-        bits: stop_bits,
-    };
-    answer_of(encoder::encode_set(cells, taps, masks, stop, specified, bits, out))
+    face_words::encode_set(
+        cells,
+        taps,
+        masks,
+        stop_specified,
+        stop_bits,
+        specified,
+        bits,
+        out,
+    )
 }
 
 // The stop slice of the steps and the seeds of cubes, written into the buffer: causes 1 to 4, then 6, then 8, then 9.
@@ -413,25 +262,7 @@ pub extern "C" fn seeds_encode_cubes(
     ensures buffer { λ _. ⌜ now (out .exit) ≡ encodeCubes (base cells taps) (now (masks .entry)) depth (now (specified .entry)) (now (bits .entry)) (now (out .entry)) .buffer ⌝ }
     ensures meaning { λ _. ⌜ CubesMeaning (base cells taps) (now (masks .entry)) depth (now (specified .entry)) (now (bits .entry)) (now (out .entry)) (encodeCubes (base cells taps) (now (masks .entry)) depth (now (specified .entry)) (now (bits .entry)) (now (out .entry))) ⌝ }
 {
-    cubes_answer_of(encoder::encode_cubes(cells, taps, masks, depth, specified, bits, out))
-}
-
-// The number, value and entries of a text call.
-fn text_answer_of(answer: text::Answer) -> TextAnswer
-    ensures { λ r. ⌜ r ≡ textAnswerOf answer ⌝ }
-{
-    match answer {
-        text::Answer::Text(bytes, entries) => TextAnswer {
-            number: 0,
-            value: bytes,
-            entries,
-        },
-        text::Answer::Refused(refusal) => TextAnswer {
-            number: refusal.number,
-            value: refusal.value,
-            entries: 0,
-        },
-    }
+    face_words::encode_cubes(cells, taps, masks, depth, specified, bits, out)
 }
 
 // The seed list of a sheet, written into the buffer as text: the first refused line, then the checks over the whole, then 9 with the bytes needed.
@@ -440,7 +271,7 @@ pub extern "C" fn seeds_encode_text(sheet: &[u8], out: &mut [u8]) -> TextAnswer
     ensures answer { λ r. ⌜ r ≡ textAnswerOf (encodeCall (now (sheet .entry)) (now (out .entry)) .answer) ⌝ }
     ensures buffer { λ _. ⌜ now (out .exit) ≡ encodeCall (now (sheet .entry)) (now (out .entry)) .buffer ⌝ }
 {
-    text_answer_of(text::encode_text(sheet, out))
+    face_texts::encode_text(sheet, out)
 }
 
 // The slices of a seed list, written into the buffer as text: refused in the same order.
@@ -449,5 +280,5 @@ pub extern "C" fn seeds_expand_text(list: &[u8], out: &mut [u8]) -> TextAnswer
     ensures answer { λ r. ⌜ r ≡ textAnswerOf (expandCall (now (list .entry)) (now (out .entry)) .answer) ⌝ }
     ensures buffer { λ _. ⌜ now (out .exit) ≡ expandCall (now (list .entry)) (now (out .entry)) .buffer ⌝ }
 {
-    text_answer_of(text::expand_text(list, out))
+    face_texts::expand_text(list, out)
 }

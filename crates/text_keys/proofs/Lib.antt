@@ -1,3 +1,2 @@
--- The laws of names, and the proofs of the functions.
-pub mod Begins
+-- The laws of keys, and the proofs of the functions.
 pub mod Same

@@ -1,20 +1,17 @@
 -- The keys (document 01, "Sheet and seed list": "Text lines are key=value").
 --     name k          the fixed bytes that a line with the key k begins with
 --     keys            all keys
---     keyOf ks l      the key among ks with which the line l begins, or unknown
 --     rank k          the place of the key k among all
 --     same j k        one key
 --     notation k      how the key's value is written: a number decimal or hexadecimal, a slice chainwise
 --     longest k       the most bytes of a line with the key k, its line feed included
-use mathlib.Core.Bool.{Bool, true, false}
+use mathlib.Core.Bool.{Bool}
 use mathlib.Core.List.{List, [], _∷_}
 use Prim.Native.Nat.{ℕ}
 use lib.Dec.{eqb}
-use Rattle.text_keys.specs.Bytes.{bytes, starts}
+use Rattle.text_keys.specs.Bytes.{bytes}
 use Rattle.text_keys.specs.declared.Key.{Key}
 use Rattle.text_keys.specs.declared.Key.the-variants as key
-use Rattle.text_keys.specs.declared.Named.{Named}
-use Rattle.text_keys.specs.declared.Named.the-variants.{Known, Unknown}
 use Rattle.text_keys.specs.declared.Notation.{Notation}
 use Rattle.text_keys.specs.declared.Notation.the-variants.{Decimal, Hexadecimal, Chainwise}
 
@@ -31,10 +28,6 @@ name key.Seed = bytes "seed="
 
 abbrev pub keys : List Key
 keys = key.Cells ∷ key.Taps ∷ key.Chains ∷ key.Chain ∷ key.Depth ∷ key.Slice ∷ key.Stop ∷ key.Slices ∷ key.Seed ∷ []
-
-unfoldable pub keyOf : List Key → List ℕ → Named
-keyOf [] l = Unknown
-keyOf (k ∷ ks) l = elim (starts (name k) l) [ true ↦ Known k | false ↦ keyOf ks l ]
 
 unfoldable pub rank : Key → ℕ
 rank key.Cells = 0

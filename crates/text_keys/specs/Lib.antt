@@ -1,3 +1,3 @@
--- Lines as bytes, and the keys with which they begin.
+-- Lines as bytes, and the keys.
 pub mod Bytes
 pub mod Keys

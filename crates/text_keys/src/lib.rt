@@ -1,8 +1,7 @@
-// The keys of lines (document 01, "Sheet and seed list": "Text lines are key=value"): which key a line begins with, and how its value is written.
+// The keys of lines (document 01, "Sheet and seed list": "Text lines are key=value"): their order, and how their values are written.
 ghost use mathlib.Core.Path.{_≡_};
 ghost use lib.ListN.{length};
-ghost use Rattle.text_keys.specs.Bytes.{starts as startsOf};
-ghost use Rattle.text_keys.specs.Keys.{name as nameOf, keys, keyOf, rank as rankOf, notation as notationOf, longest as longestOf};
+ghost use Rattle.text_keys.specs.Keys.{name as nameOf, rank as rankOf, notation as notationOf, longest as longestOf};
 
 // The keys of the lines.
 pub enum Key {
@@ -17,68 +16,11 @@ pub enum Key {
     Seed,
 }
 
-// The key with which a line begins.
-pub enum Named {
-    Known(Key),
-    Unknown,
-}
-
 // How the value of a key is written.
 pub enum Notation {
     Decimal,
     Hexadecimal,
     Chainwise,
-}
-
-// Whether a line begins with these bytes.
-fn starts(name: &[u8], line: &[u8]) -> bool
-    ensures { λ r. ⌜ r ≡ startsOf (now (name .entry)) (now (line .entry)) ⌝ }
-{
-    let mut i = 0;
-    while i < name.len() {
-        if line.len() <= i {
-            return false;
-        }
-        if name[i] != line[i] {
-            return false;
-        }
-        i += 1;
-    }
-    true
-}
-
-// The key with which a line begins.
-pub fn key_of(line: &[u8]) -> Named
-    ensures { λ r. ⌜ r ≡ keyOf keys (now (line .entry)) ⌝ }
-{
-    if starts(b"cells=", line) {
-        return Named::Known(Key::Cells);
-    }
-    if starts(b"taps=", line) {
-        return Named::Known(Key::Taps);
-    }
-    if starts(b"chains=", line) {
-        return Named::Known(Key::Chains);
-    }
-    if starts(b"chain=", line) {
-        return Named::Known(Key::Chain);
-    }
-    if starts(b"depth=", line) {
-        return Named::Known(Key::Depth);
-    }
-    if starts(b"slice=", line) {
-        return Named::Known(Key::Slice);
-    }
-    if starts(b"stop=", line) {
-        return Named::Known(Key::Stop);
-    }
-    if starts(b"slices=", line) {
-        return Named::Known(Key::Slices);
-    }
-    if starts(b"seed=", line) {
-        return Named::Known(Key::Seed);
-    }
-    Named::Unknown
 }
 
 // The place of a key among all.

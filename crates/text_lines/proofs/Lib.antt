@@ -1,4 +1,2 @@
 -- The laws of what a line says, and the proofs of the functions.
-pub mod Numerals
-pub mod Rows
 pub mod Values

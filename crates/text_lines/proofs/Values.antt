@@ -10,12 +10,13 @@ use Prim.Native.Nat.{ℕ, _+_, _≤_, _<_}
 use native.Mathlib.Omega.{arith}
 use borrow.Author.Tests.{le-leb, lt-leb, eq-eqb, ne-eqb}
 use lib.ListN.{length, drop}
-use Rattle.text_keys.specs.Keys.{name, keys, keyOf, notation, longest}
+use Rattle.text_keys.specs.Keys.{name, keys, notation, longest}
+use Rattle.text_key_of.specs.Begins.{keyOf}
 use Rattle.text_keys.specs.declared.Key.{Key}
-use Rattle.text_keys.specs.declared.Named.the-variants.{Known, Unknown}
+use Rattle.text_key_of.specs.declared.Named.the-variants.{Known, Unknown}
 use Rattle.text_keys.specs.declared.Notation.the-variants.{Decimal, Hexadecimal, Chainwise}
-use Rattle.text_lines.specs.Numbers.{number}
-use Rattle.text_lines.specs.Characters.{rowOf}
+use Rattle.text_numbers.specs.Numbers.{number}
+use Rattle.text_characters.specs.Characters.{rowOf}
 use Rattle.text_lines.specs.Form.{numbered, sliced, characters, valued, keyed, named, formed}
 use Rattle.text_lines.specs.declared.LineCause.the-variants.{Form}
 use Rattle.text_lines.specs.declared.Line.the-variants.{Refused}

@@ -11,17 +11,18 @@ use mathlib.Core.List.{List}
 use Prim.Native.Nat.{ℕ, _+_}
 use lib.Dec.{leb, eqb}
 use lib.ListN.{length, drop}
-use Rattle.machine_register.specs.Chains.{mostChains}
-use Rattle.text_lines.specs.Numbers.{number}
-use Rattle.text_lines.specs.Characters.{rowOf}
-use Rattle.text_keys.specs.Keys.{name, keys, keyOf, notation, longest}
-use Rattle.text_lines.specs.declared.Numeral.{Numeral}
-use Rattle.text_lines.specs.declared.Numeral.the-variants as numeral
-use Rattle.text_lines.specs.declared.Row.{Row}
-use Rattle.text_lines.specs.declared.Row.the-variants as row
+use Rattle.machine_chains.specs.Chains.{mostChains}
+use Rattle.text_numbers.specs.Numbers.{number}
+use Rattle.text_characters.specs.Characters.{rowOf}
+use Rattle.text_keys.specs.Keys.{name, keys, notation, longest}
+use Rattle.text_key_of.specs.Begins.{keyOf}
+use Rattle.text_numbers.specs.declared.Numeral.{Numeral}
+use Rattle.text_numbers.specs.declared.Numeral.the-variants as numeral
+use Rattle.text_characters.specs.declared.Row.{Row}
+use Rattle.text_characters.specs.declared.Row.the-variants as row
 use Rattle.text_keys.specs.declared.Key.{Key}
-use Rattle.text_keys.specs.declared.Named.{Named}
-use Rattle.text_keys.specs.declared.Named.the-variants.{Known, Unknown}
+use Rattle.text_key_of.specs.declared.Named.{Named}
+use Rattle.text_key_of.specs.declared.Named.the-variants.{Known, Unknown}
 use Rattle.text_keys.specs.declared.Notation.the-variants.{Decimal, Hexadecimal, Chainwise}
 use Rattle.text_lines.specs.declared.LineCause.the-variants.{Form}
 use Rattle.text_lines.specs.declared.Line.{Line}

@@ -1,26 +1,13 @@
 // What one line of a text says by its form (document 01, "Sheet and seed list"): a number for its key, a slice for its key, or a refusal.
 use machine_slices::TestSlice;
+use text_characters::Row;
+use text_key_of::Named;
 use text_keys::Key;
-use text_keys::Named;
 use text_keys::Notation;
+use text_numbers::Numeral;
 ghost use mathlib.Core.Path.{_≡_};
-ghost use Prim.Native.Nat.{_≤_, _^_};
-ghost use lib.ListN.{length, drop};
-ghost use Rattle.text_lines.specs.Numbers.{worth as worthOf, digits as digitsOf, number as numberOf};
-ghost use Rattle.text_lines.specs.Characters.{isCharacter, specifiedAt, bitAt, rowOf};
+ghost use lib.ListN.{drop};
 ghost use Rattle.text_lines.specs.Form.{numbered as numberedOf, sliced as slicedOf, characters as charactersOf, valued as valuedOf, keyed as keyedOf, formed as formedOf};
-
-// The number that digits say.
-pub enum Numeral {
-    Value(u64),
-    Nothing,
-}
-
-// The slice that characters say.
-pub enum Row {
-    Slice(TestSlice),
-    Nothing,
-}
 
 // Why a line is refused: its form or its order, or its own number's range.
 pub enum LineCause {
@@ -41,107 +28,6 @@ pub enum Line {
     Number(Key, u64),
     Slice(Key, TestSlice),
     Refused(LineCause),
-}
-
-// What a byte is worth as a digit; 16 where it is none.
-fn worth(b: u8) -> u64
-    ensures { λ r. ⌜ r ≡ worthOf b ⌝ }
-{
-    let code = b as u64;
-    if code < 48 {
-        return 16;
-    }
-    if code <= 57 {
-        return code - 48;
-    }
-    if code < 97 {
-        return 16;
-    }
-    if code <= 102 {
-        return code - 87;
-    }
-    16
-}
-
-// The number that the bytes say as digits.
-fn digits(base: u64, value: &[u8]) -> Numeral
-    requires { ⌜ (1 ≤ base) × (base ^ length (now value) ≤ 2 ^ 64) ⌝ }
-    ensures { λ r. ⌜ r ≡ digitsOf base 0 (now (value .entry)) ⌝ }
-{
-    let mut v = 0;
-    let mut i = 0;
-    while i < value.len() {
-        let d = worth(value[i]);
-        if base <= d {
-            return Numeral::Nothing;
-        }
-        v = v * base + d;
-        i += 1;
-    }
-    Numeral::Value(v)
-}
-
-// The number that 1 to `most` digits say, with no leading zero.
-fn number(base: u64, most: usize, value: &[u8]) -> Numeral
-    requires { ⌜ (1 ≤ base) × (base ^ most ≤ 2 ^ 64) ⌝ }
-    ensures { λ r. ⌜ r ≡ numberOf base most (now (value .entry)) ⌝ }
-{
-    if !words_bounded::within(1, most, value.len()) {
-        return Numeral::Nothing;
-    }
-    if 1 < value.len() {
-        if value[0] == b'0' {
-            return Numeral::Nothing;
-        }
-    }
-    digits(base, value)
-}
-
-// Whether a byte is one of the three characters of a slice.
-fn is_character(b: u8) -> bool
-    ensures { λ r. ⌜ r ≡ isCharacter b ⌝ }
-{
-    if b == b'0' {
-        return true;
-    }
-    if b == b'1' {
-        return true;
-    }
-    b == b'x'
-}
-
-// 1 where a character specifies a bit.
-fn specified_at(b: u8) -> u64
-    ensures { λ r. ⌜ r ≡ specifiedAt b ⌝ }
-{
-    if b == b'x' { 0 } else { 1 }
-}
-
-// The bit of a character, 0 where there is none.
-fn bit_at(b: u8) -> u64
-    ensures { λ r. ⌜ r ≡ bitAt b ⌝ }
-{
-    if b == b'1' { 1 } else { 0 }
-}
-
-// The slice that the characters say. The first has the least weight, so they are read from the last.
-fn row_of(value: &[u8]) -> Row
-    requires { ⌜ length (now value) ≤ 64 ⌝ }
-    ensures { λ r. ⌜ r ≡ rowOf (now (value .entry)) ⌝ }
-{
-    let mut specified: u64 = 0;
-    let mut bits: u64 = 0;
-    let mut i = value.len();
-    while 0 < i {
-        i -= 1;
-        let b = value[i];
-        if !is_character(b) {
-            return Row::Nothing;
-        }
-        specified = specified * 2 + specified_at(b);
-        bits = bits * 2 + bit_at(b);
-    }
-    Row::Slice(TestSlice { specified, bits })
 }
 
 // The number for its key.
@@ -168,13 +54,13 @@ fn sliced(key: Key, row: Row) -> Line
 fn characters(chains: usize, key: Key, value: &[u8]) -> Line
     ensures { λ r. ⌜ r ≡ charactersOf chains key (now (value .entry)) ⌝ }
 {
-    if machine_register::MOST_CHAINS < value.len() {
+    if machine_chains::MOST_CHAINS < value.len() {
         return Line::Refused(LineCause::Form);
     }
     if value.len() != chains {
         return Line::Refused(LineCause::Form);
     }
-    sliced(key, row_of(value))
+    sliced(key, text_characters::row_of(value))
 }
 
 // What a value says for its key.
@@ -182,8 +68,8 @@ fn valued(chains: usize, key: Key, value: &[u8]) -> Line
     ensures { λ r. ⌜ r ≡ valuedOf chains key (now (value .entry)) ⌝ }
 {
     match text_keys::notation_of(key) {
-        Notation::Decimal => numbered(key, number(10, 4, value)),
-        Notation::Hexadecimal => numbered(key, number(16, 16, value)),
+        Notation::Decimal => numbered(key, text_numbers::number(10, 4, value)),
+        Notation::Hexadecimal => numbered(key, text_numbers::number(16, 16, value)),
         Notation::Chainwise => characters(chains, key, value),
     }
 }
@@ -213,7 +99,7 @@ fn keyed(chains: usize, key: Key, line: &[u8]) -> Line
 pub fn formed(chains: usize, line: &[u8]) -> Line
     ensures { λ r. ⌜ r ≡ formedOf chains (now (line .entry)) ⌝ }
 {
-    match text_keys::key_of(line) {
+    match text_key_of::key_of(line) {
         Named::Known(key) => keyed(chains, key, line),
         Named::Unknown => Line::Refused(LineCause::Form),
     }

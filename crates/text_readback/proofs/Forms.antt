@@ -17,18 +17,20 @@ use Rattle.words_gf2.specs.Words.{beyond}
 use Rattle.words_gf2.proofs.Digits.{no-beyond}
 use Rattle.machine_slices.specs.declared.TestSlice.{TestSlice}
 use Rattle.machine_slices.proofs.Formed.{Formed}
-use Rattle.text_keys.specs.Bytes.{starts}
-use Rattle.text_keys.specs.Keys.{name, keys, keyOf, notation, longest}
+use Rattle.text_key_of.specs.Begins.{starts, keyOf}
+use Rattle.text_keys.specs.Keys.{name, keys, notation, longest}
 use Rattle.text_keys.specs.declared.Key.{Key}
 use Rattle.text_keys.specs.declared.Key.the-variants as key
-use Rattle.text_keys.specs.declared.Named.the-variants.{Known}
+use Rattle.text_key_of.specs.declared.Named.the-variants.{Known}
 use Rattle.text_keys.specs.declared.Notation.the-variants.{Decimal, Hexadecimal, Chainwise}
-use Rattle.text_lines.specs.Numbers.{number}
+use Rattle.text_numbers.specs.Numbers.{number}
 use Rattle.text_lines.specs.Form.{numbered, sliced, valued, formed}
 use Rattle.text_lines.specs.declared.Line.the-variants.{Number, Slice}
 use Rattle.text_lines.proofs.Values.{characters-right, valued-decimal, valued-hexadecimal, valued-chainwise, keyed-value, formed-known}
-use Rattle.text_writing.specs.Numerals.{numeral, characters}
-use Rattle.text_writing.proofs.Lengths.{numeral-length, characters-length}
+use Rattle.text_write_numbers.specs.Numerals.{numeral}
+use Rattle.text_write_characters.specs.Characters.{characters}
+use Rattle.text_write_numbers.proofs.Lines.{numeral-length}
+use Rattle.text_write_characters.proofs.Characters.{characters-length}
 use Rattle.text_readback.proofs.Numerals.{number-back}
 use Rattle.text_readback.proofs.Slices.{row-back}
 

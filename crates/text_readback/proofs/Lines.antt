@@ -18,19 +18,25 @@ use Rattle.text_keys.specs.declared.Key.{Key}
 use Rattle.text_keys.proofs.Same.{same-self}
 use Rattle.text_lines.specs.Form.{formed}
 use Rattle.text_lines.specs.declared.Line.the-variants.{Number, Slice}
-use Rattle.text_reading.specs.Text.{split}
-use Rattle.text_reading.specs.Order.{isRow, outOfRange, ranged, saying, moved}
-use Rattle.text_reading.specs.Reading.{entry, stops, told, onward, takenOf, refusalOfLine, reading}
-use Rattle.text_reading.specs.declared.Kind.the-variants.{SeedList}
-use Rattle.text_reading.specs.declared.Place.{Place}
-use Rattle.text_reading.specs.declared.Entry.{Entry}
-use Rattle.text_reading.specs.declared.Taken.{Taken}
-use Rattle.text_reading.specs.declared.Taken.the-variants.{Said}
-use Rattle.text_reading.specs.declared.Scanned.the-variants.{Whole, Refused}
-use Rattle.text_reading.proofs.Ranging.{tested-right, end-whole}
+use Rattle.text_split.specs.Text.{split}
+use Rattle.text_place.specs.Places.{isRow}
+use Rattle.text_ranges.specs.Ranges.{outOfRange, ranged, saying}
+use Rattle.text_order.specs.Order.{moved}
+use Rattle.text_entries.specs.Said.{entry}
+use Rattle.text_reading.specs.Reading.{stops, told, onward, reading}
+use Rattle.text_taken.specs.Taking.{takenOf, refusalOfLine}
+use Rattle.text_order.specs.declared.Kind.the-variants.{SeedList}
+use Rattle.text_place.specs.declared.Place.{Place}
+use Rattle.text_entries.specs.declared.Entry.{Entry}
+use Rattle.text_taken.specs.declared.Taken.{Taken}
+use Rattle.text_taken.specs.declared.Taken.the-variants.{Said}
+use Rattle.text_taken.specs.declared.Scanned.the-variants.{Whole, Refused}
+use Rattle.text_ranges.proofs.Ranging.{tested-right}
+use Rattle.text_taken.proofs.Ending.{end-whole}
 use Rattle.text_reading.proofs.Counting.{placeAt}
-use Rattle.text_writing.specs.Numerals.{numeral, characters}
-use Rattle.text_writing.specs.Writing.{numberLine, sliceLine}
+use Rattle.text_write_numbers.specs.Numerals.{numeral}
+use Rattle.text_write_characters.specs.Characters.{characters, sliceLine}
+use Rattle.text_write_numbers.specs.Lines.{numberLine}
 use Rattle.text_readback.proofs.Splitting.{isFeed, plain-append, name-plain, numeral-plain, characters-plain, split-feed}
 
 abbrev pub Reads : Place → List ℕ → List Entry → Place → Type 0

@@ -20,11 +20,11 @@ use borrow.Author.Tests.{lt-ltb, le-ltb}
 use lib.Dec.{ltb}
 use lib.ListN.{length, getD, length-append, List·getD-append}
 use Rattle.words_bounded.proofs.Tests.{lt-or-le, above-within, within-holds}
-use Rattle.text_lines.specs.Numbers.{worth, digits, leadingZero, number}
-use Rattle.text_lines.specs.declared.Numeral.the-variants.{Value, Nothing}
-use Rattle.text_lines.proofs.Numerals.{no-zero-leads, number-digits}
-use Rattle.text_writing.specs.Numerals.{glyph, lastDigits, numeral}
-use Rattle.text_writing.proofs.Digits.{digit-room, digit-less}
+use Rattle.text_numbers.specs.Numbers.{worth, digits, leadingZero, number}
+use Rattle.text_numbers.specs.declared.Numeral.the-variants.{Value, Nothing}
+use Rattle.text_numbers.proofs.Numerals.{no-zero-leads, number-digits}
+use Rattle.text_write_numbers.specs.Numerals.{glyph, lastDigits, numeral}
+use Rattle.text_write_numbers.proofs.Digits.{digit-room, digit-less}
 
 glyph-low : (d : ℕ) → d < 10 → glyph d ≡ d + 48
 unfolding glyph

@@ -18,16 +18,18 @@ use Rattle.words_bounded.specs.Bounded.{any}
 use Rattle.words_bounded.proofs.Tests.{neither}
 use Rattle.words_gf2.specs.Words.{beyond}
 use Rattle.words_gf2.proofs.Digits.{no-beyond, beyond-wide}
-use Rattle.machine_register.specs.Chains.{badMask}
+use Rattle.machine_chains.specs.Chains.{badMask}
 use Rattle.text_keys.specs.Keys.{name, rank, same, notation}
 use Rattle.text_keys.specs.declared.Key.{Key}
 use Rattle.text_keys.specs.declared.Key.the-variants as key
-use Rattle.text_reading.specs.Order.{isRow, outOfRange, afterChains, afterMask, moved}
-use Rattle.text_reading.specs.declared.Place.{Place}
-use Rattle.text_reading.specs.declared.Entry.{Entry}
+use Rattle.text_place.specs.Places.{isRow}
+use Rattle.text_ranges.specs.Ranges.{outOfRange}
+use Rattle.text_order.specs.Order.{afterChains, afterMask, moved}
+use Rattle.text_place.specs.declared.Place.{Place}
+use Rattle.text_entries.specs.declared.Entry.{Entry}
 use Rattle.text_reading.proofs.Counting.{placeAt}
-use Rattle.text_writing.specs.Writing.{numberLine, numberLines}
-use Rattle.text_reading.specs.Reading.{entry}
+use Rattle.text_write_numbers.specs.Lines.{numberLine, numberLines}
+use Rattle.text_entries.specs.Said.{entry}
 use Rattle.text_readback.proofs.Forms.{hexadecimal-formed}
 use Rattle.text_readback.proofs.Lines.{Reads, reads-end, number-reads}
 

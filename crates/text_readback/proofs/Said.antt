@@ -12,10 +12,9 @@ use Rattle.machine_slices.specs.declared.TestSlice.{TestSlice}
 use Rattle.text_keys.specs.Keys.{rank, same}
 use Rattle.text_keys.specs.declared.Key.{Key}
 use Rattle.text_keys.specs.declared.Key.the-variants as key
-use Rattle.text_reading.specs.Order.{isRow}
-use Rattle.text_reading.specs.Said.{keyIs, rowIs, picked, masksOf, rowsOf, lastOr, numberFor, sliceFor}
-use Rattle.text_reading.specs.declared.Entry.{Entry}
-use Rattle.text_reading.specs.Reading.{entry}
+use Rattle.text_place.specs.Places.{isRow}
+use Rattle.text_entries.specs.Said.{keyIs, rowIs, picked, masksOf, rowsOf, lastOr, numberFor, sliceFor, entry}
+use Rattle.text_entries.specs.declared.Entry.{Entry}
 use Rattle.text_readback.specs.Written.{entriesOf}
 
 module _ (p : Entry → Bool) (f : Entry → ℕ) where

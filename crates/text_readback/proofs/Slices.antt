@@ -10,10 +10,10 @@ use native.Mathlib.Omega.{arith}
 use lib.Bits.{and-step, and-le-r}
 use Rattle.machine_slices.specs.declared.TestSlice.{TestSlice}
 use Rattle.machine_slices.proofs.Formed.{Formed}
-use Rattle.text_lines.specs.Characters.{isCharacter, specifiedAt, bitAt, inFront, rowOf}
-use Rattle.text_lines.specs.declared.Row.the-variants.{Slice}
-use Rattle.text_lines.proofs.Rows.{sliceRow}
-use Rattle.text_writing.specs.Numerals.{character, characters}
+use Rattle.text_characters.specs.Characters.{isCharacter, specifiedAt, bitAt, inFront, rowOf}
+use Rattle.text_characters.specs.declared.Row.the-variants.{Slice}
+use Rattle.text_characters.proofs.Rows.{sliceRow}
+use Rattle.text_write_characters.specs.Characters.{character, characters}
 
 abbrev half : TestSlice → TestSlice
 half s = record { specified = s .specified / 2; bits = s .bits / 2 }

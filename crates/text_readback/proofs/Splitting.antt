@@ -18,8 +18,9 @@ use Rattle.text_keys.specs.Bytes.{feed}
 use Rattle.text_keys.specs.Keys.{name}
 use Rattle.text_keys.specs.declared.Key.{Key}
 use Rattle.text_keys.specs.declared.Key.the-variants as key
-use Rattle.text_reading.specs.Text.{line, split}
-use Rattle.text_writing.specs.Numerals.{glyph, lastDigits, numeral, character, characters}
+use Rattle.text_split.specs.Text.{line, split}
+use Rattle.text_write_numbers.specs.Numerals.{glyph, lastDigits, numeral}
+use Rattle.text_write_characters.specs.Characters.{character, characters}
 use Rattle.text_readback.proofs.Numerals.{glyph-above}
 
 abbrev pub isFeed : ℕ → Bool

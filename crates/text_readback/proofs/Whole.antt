@@ -16,22 +16,28 @@ use Rattle.words_bounded.specs.Bounded.{within}
 use Rattle.words_bounded.proofs.Tests.{neither}
 use Rattle.words_gf2.specs.Words.{digit, beyond}
 use Rattle.words_gf2.proofs.Digits.{beyond-wide}
-use Rattle.machine_register.specs.Machine.{base}
+use Rattle.machine_settings.specs.Machine.{base}
 use Rattle.machine_register.specs.Register.{badRegister}
-use Rattle.machine_register.proofs.Causes.{cells-within, taps-below, chains-within, chains-counted, chains-masked}
+use Rattle.machine_register.proofs.Causes.{cells-within, taps-below}
+use Rattle.machine_chains.proofs.Causes.{chains-within, chains-counted, chains-masked}
 use Rattle.machine_slices.specs.Slices.{badSlice, badStop}
 use Rattle.machine_slices.specs.declared.TestSlice.{TestSlice}
 use Rattle.machine_slices.proofs.Formed.{slice-formed as formed-slice, stop-slice}
-use Rattle.refusal_checks.proofs.Lengths.{set-within}
+use Rattle.refusal_lengths.proofs.Lengths.{set-within}
 use Rattle.text_keys.specs.Keys.{name, notation}
 use Rattle.text_keys.specs.declared.Key.the-variants as key
-use Rattle.text_reading.specs.Order.{start, outOfRange, moved}
-use Rattle.text_reading.specs.Reading.{entry, readingOf}
-use Rattle.text_reading.specs.declared.Kind.the-variants as kinds
-use Rattle.text_reading.specs.declared.Place.{Place}
-use Rattle.text_reading.specs.declared.Scanned.the-variants.{Whole}
+use Rattle.text_place.specs.Places.{start}
+use Rattle.text_ranges.specs.Ranges.{outOfRange}
+use Rattle.text_order.specs.Order.{moved}
+use Rattle.text_entries.specs.Said.{entry}
+use Rattle.text_reading.specs.Reading.{readingOf}
+use Rattle.text_order.specs.declared.Kind.the-variants as kinds
+use Rattle.text_place.specs.declared.Place.{Place}
+use Rattle.text_taken.specs.declared.Scanned.the-variants.{Whole}
 use Rattle.text_reading.proofs.Counting.{placeAt}
-use Rattle.text_writing.specs.Writing.{numberLine, numberLines, sliceLine, headText, listText}
+use Rattle.text_write_numbers.specs.Lines.{numberLine, numberLines}
+use Rattle.text_write_characters.specs.Characters.{sliceLine}
+use Rattle.text_write_list.specs.SeedList.{headText, listText}
 use Rattle.text_readback.specs.Written.{entriesOf, Printable}
 use Rattle.text_readback.proofs.Forms.{decimal-formed, hexadecimal-formed, slice-formed}
 use Rattle.text_readback.proofs.Lines.{Reads, number-reads, slice-reads}

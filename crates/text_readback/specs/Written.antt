@@ -9,13 +9,13 @@ use lib.ListN.{length}
 use Rattle.words_bounded.specs.Bounded.{any}
 use Rattle.words_gf2.specs.Words.{beyond}
 use Rattle.machine_register.specs.Register.{badRegister}
-use Rattle.machine_register.specs.Chains.{badChains}
+use Rattle.machine_chains.specs.Chains.{badChains}
 use Rattle.machine_slices.specs.Slices.{badStop}
 use Rattle.machine_slices.specs.declared.TestSlice.{TestSlice}
-use Rattle.refusal_checks.specs.Lengths.{mostSlices, badSet}
+use Rattle.refusal_lengths.specs.Lengths.{mostSlices, badSet}
 use Rattle.text_keys.specs.declared.Key.the-variants as key
-use Rattle.text_reading.specs.Reading.{entry}
-use Rattle.text_reading.specs.declared.Entry.{Entry}
+use Rattle.text_entries.specs.Said.{entry}
+use Rattle.text_entries.specs.declared.Entry.{Entry}
 
 unfoldable pub entriesOf : ℕ → ℕ → List ℕ → TestSlice → ℕ → List ℕ → List Entry
 entriesOf cells taps masks stop slices seeds =

@@ -11,10 +11,11 @@ use Prim.Native.Nat.{ℕ, _≤_}
 use native.Mathlib.Omega.{arith}
 use lib.ListN.{length}
 use Rattle.machine_slices.specs.declared.TestSlice.{TestSlice}
-use Rattle.text_keys.specs.Keys.{keys, keyOf, same, longest}
+use Rattle.text_keys.specs.Keys.{keys, same, longest}
+use Rattle.text_key_of.specs.Begins.{keyOf}
 use Rattle.text_keys.specs.declared.Key.{Key}
-use Rattle.text_keys.specs.declared.Named.{Named}
-use Rattle.text_keys.specs.declared.Named.the-variants.{Known, Unknown}
+use Rattle.text_key_of.specs.declared.Named.{Named}
+use Rattle.text_key_of.specs.declared.Named.the-variants.{Known, Unknown}
 use Rattle.text_keys.proofs.Same.{same-is}
 use Rattle.text_lines.specs.Form.{formed}
 use Rattle.text_lines.specs.declared.LineCause.{LineCause}
@@ -22,12 +23,12 @@ use Rattle.text_lines.specs.declared.LineCause.the-variants.{Form}
 use Rattle.text_lines.specs.declared.Line.{Line}
 use Rattle.text_lines.specs.declared.Line.the-variants.{Number, Slice, Refused}
 use Rattle.text_lines.proofs.Values.{keyed-long, formed-known, formed-unknown}
-use Rattle.text_reading.specs.Order.{outOfRange, tested, ranged, saying}
-use Rattle.text_reading.specs.Reading.{takenOf}
-use Rattle.text_reading.specs.declared.Place.{Place}
-use Rattle.text_reading.specs.declared.Entry.{Entry}
-use Rattle.text_reading.specs.declared.Taken.the-variants.{Said, Nothing}
-use Rattle.text_reading.proofs.Ranging.{tested-other, tested-beyond, tested-right}
+use Rattle.text_ranges.specs.Ranges.{outOfRange, tested, ranged, saying}
+use Rattle.text_taken.specs.Taking.{takenOf}
+use Rattle.text_place.specs.declared.Place.{Place}
+use Rattle.text_entries.specs.declared.Entry.{Entry}
+use Rattle.text_taken.specs.declared.Taken.the-variants.{Said, Nothing}
+use Rattle.text_ranges.proofs.Ranging.{tested-other, tested-beyond, tested-right}
 
 -- Nothing is no entry.
 pub nothing-said : (e : Entry) → Nothing ≡ Said e → ⊥

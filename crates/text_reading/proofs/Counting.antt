@@ -15,23 +15,26 @@ use borrow.Author.Tests.{not-false, ltb-true, ltb-false, leb-false}
 use lib.Dec.{ltb}
 use lib.ListN.{length}
 use Rattle.words_bounded.proofs.Tests.{within-yes}
-use Rattle.machine_register.specs.Chains.{badCount}
+use Rattle.machine_chains.specs.Chains.{badCount}
 use Rattle.text_keys.specs.Keys.{rank, same}
 use Rattle.text_keys.specs.declared.Key.{Key}
 use Rattle.text_keys.specs.declared.Key.the-variants as key
-use Rattle.text_reading.specs.Text.{Text, line, rest, split}
-use Rattle.text_reading.specs.Order.{start, isRow, outOfRange, saying, afterChains, afterMask, moved}
-use Rattle.text_reading.specs.Reading.{entry, onward, takenOf, refusalOfLine, endOf, reading, readingOf}
-use Rattle.text_reading.specs.Said.{picked, masksOf, rowsOf, rowBitsOf}
-use Rattle.text_reading.specs.declared.Kind.{Kind}
-use Rattle.text_reading.specs.declared.Kind.the-variants as kinds
-use Rattle.text_reading.specs.declared.Place.{Place}
-use Rattle.text_reading.specs.declared.Entry.{Entry}
-use Rattle.text_reading.specs.declared.Taken.{Taken}
-use Rattle.text_reading.specs.declared.Taken.the-variants.{Said, Nothing}
-use Rattle.text_reading.specs.declared.Scanned.the-variants as scanned
+use Rattle.text_split.specs.Text.{Text, line, rest, split}
+use Rattle.text_place.specs.Places.{start, isRow}
+use Rattle.text_ranges.specs.Ranges.{outOfRange, saying}
+use Rattle.text_order.specs.Order.{afterChains, afterMask, moved}
+use Rattle.text_entries.specs.Said.{entry, picked, masksOf, rowsOf, rowBitsOf}
+use Rattle.text_reading.specs.Reading.{onward, reading, readingOf}
+use Rattle.text_taken.specs.Taking.{takenOf, refusalOfLine, endOf}
+use Rattle.text_order.specs.declared.Kind.{Kind}
+use Rattle.text_order.specs.declared.Kind.the-variants as kinds
+use Rattle.text_place.specs.declared.Place.{Place}
+use Rattle.text_entries.specs.declared.Entry.{Entry}
+use Rattle.text_taken.specs.declared.Taken.{Taken}
+use Rattle.text_taken.specs.declared.Taken.the-variants.{Said, Nothing}
+use Rattle.text_taken.specs.declared.Scanned.the-variants as scanned
 use Rattle.refusal_causes.specs.declared.Refusal.{Refusal}
-use Rattle.text_reading.proofs.Ranging.{end-whole, end-early}
+use Rattle.text_taken.proofs.Ending.{end-whole, end-early}
 use Rattle.text_reading.proofs.Accepting.{Accepted, line-accepted}
 
 abbrev pub Masked : Key → ℕ → ℕ → Type 0
@@ -147,4 +150,4 @@ module _ (kind : Kind) (q : Place) where
 -- A text that is read through: as many masks as chains, and as many rows as the place says.
 pub read-counts : (kind : Kind) (s : List ℕ) (q : Place) → readingOf kind s .end ≡ scanned.Whole q → Counts start (readingOf kind s .entries) q
 unfolding readingOf
-read-counts kind s q e = counted kind q start 1 (split s) (omega arith, refl) e
+read-counts kind s q e = counted kind q start _ (split s) (omega arith, refl) e

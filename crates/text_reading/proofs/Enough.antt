@@ -15,22 +15,25 @@ use lib.Dec.{eqb, ltb}
 use lib.ListN.{length, take}
 use lib.Seq.{length-take-le}
 use Rattle.words_bounded.proofs.Tests.{lt-or-le, within-yes}
-use Rattle.machine_register.specs.Chains.{badCount}
+use Rattle.machine_chains.specs.Chains.{badCount}
 use Rattle.text_keys.specs.Keys.{longest}
 use Rattle.text_keys.specs.declared.Key.{Key}
 use Rattle.text_keys.specs.declared.Key.the-variants as key
 use Rattle.text_lines.specs.declared.LineCause.the-variants.{Form}
-use Rattle.text_reading.specs.Text.{Text, line, rest, joined, split}
-use Rattle.text_reading.specs.Order.{start, outOfRange, saying, afterChains, afterMask, moved}
-use Rattle.text_reading.specs.Reading.{Reading, stops, told, onward, refusedAt, takenOf, refusalOfLine, reading, readingOf}
-use Rattle.text_reading.specs.declared.Kind.{Kind}
-use Rattle.text_reading.specs.declared.Kind.the-variants as kinds
-use Rattle.text_reading.specs.declared.Place.{Place}
-use Rattle.text_reading.specs.declared.Entry.{Entry}
-use Rattle.text_reading.specs.declared.Taken.{Taken}
-use Rattle.text_reading.specs.declared.Taken.the-variants.{Said, Nothing}
-use Rattle.text_reading.specs.declared.Scanned.{Scanned}
-use Rattle.text_reading.specs.declared.Scanned.the-variants.{Refused}
+use Rattle.text_split.specs.Text.{Text, line, rest, joined, split}
+use Rattle.text_place.specs.Places.{start}
+use Rattle.text_ranges.specs.Ranges.{outOfRange, saying}
+use Rattle.text_order.specs.Order.{afterChains, afterMask, moved}
+use Rattle.text_reading.specs.Reading.{Reading, stops, told, onward, reading, readingOf}
+use Rattle.text_taken.specs.Taking.{refusedAt, takenOf, refusalOfLine}
+use Rattle.text_order.specs.declared.Kind.{Kind}
+use Rattle.text_order.specs.declared.Kind.the-variants as kinds
+use Rattle.text_place.specs.declared.Place.{Place}
+use Rattle.text_entries.specs.declared.Entry.{Entry}
+use Rattle.text_taken.specs.declared.Taken.{Taken}
+use Rattle.text_taken.specs.declared.Taken.the-variants.{Said, Nothing}
+use Rattle.text_taken.specs.declared.Scanned.{Scanned}
+use Rattle.text_taken.specs.declared.Scanned.the-variants.{Refused}
 use Rattle.text_reading.proofs.Accepting.{Accepted, nothing-said, line-accepted, long-refused}
 use Rattle.text_reading.proofs.Counting.{Sound, placeAt, sound-step}
 
@@ -169,4 +172,4 @@ module _ (kind : Kind) where
 
   pub enough-reads : (s : List ℕ) → readingOf kind (take enough s) ≡ readingOf kind s
   unfolding readingOf
-  enough-reads s = ap (reading kind start 1) (split-cut enough s) ∙ cut-reads (split s) start 1 enough (omega arith, refl) (le-refl enough)
+  enough-reads s = ap (reading kind start _) (split-cut enough s) ∙ cut-reads (split s) start _ enough (omega arith, refl) (le-refl enough)

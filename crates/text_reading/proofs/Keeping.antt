@@ -18,13 +18,13 @@ use lib.Seq.{sets, length-sets}
 use Rattle.text_keys.specs.Keys.{rank, same}
 use Rattle.text_keys.specs.declared.Key.{Key}
 use Rattle.text_keys.specs.declared.Key.the-variants as key
-use Rattle.text_reading.specs.Order.{isRow, moved}
-use Rattle.text_reading.specs.Reading.{entry}
-use Rattle.text_reading.specs.Said.{keyIs, rowIs, picked, masksOf, rowsOf, rowBitsOf}
-use Rattle.text_reading.specs.Code.{storedIf, keptAll}
-use Rattle.text_reading.specs.declared.Kind.{Kind}
-use Rattle.text_reading.specs.declared.Place.{Place}
-use Rattle.text_reading.specs.declared.Entry.{Entry}
+use Rattle.text_place.specs.Places.{isRow}
+use Rattle.text_order.specs.Order.{moved}
+use Rattle.text_entries.specs.Said.{entry, keyIs, rowIs, picked, masksOf, rowsOf, rowBitsOf}
+use Rattle.text_entries.specs.Kept.{storedIf, keptAll}
+use Rattle.text_order.specs.declared.Kind.{Kind}
+use Rattle.text_place.specs.declared.Place.{Place}
+use Rattle.text_entries.specs.declared.Entry.{Entry}
 
 pub record Lists : Type 0 where
   pub heads : List ℕ

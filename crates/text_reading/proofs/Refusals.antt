@@ -10,17 +10,20 @@ use Rattle.text_lines.specs.declared.LineCause.{LineCause}
 use Rattle.text_lines.specs.declared.LineCause.the-variants as lineCause
 use Rattle.text_lines.specs.declared.Line.{Line}
 use Rattle.text_lines.specs.declared.Line.the-variants as lines
-use Rattle.text_reading.specs.Text.{Text, line, rest, split}
-use Rattle.text_reading.specs.Order.{start, isRow, saying, moved}
-use Rattle.text_reading.specs.Reading.{refusedAt, takenOf, refusalOfLine, onward, endOf, reading, readingOf}
-use Rattle.text_reading.specs.declared.Entry.{Entry}
-use Rattle.text_reading.specs.declared.Kind.{Kind}
-use Rattle.text_reading.specs.declared.Place.{Place}
-use Rattle.text_reading.specs.declared.Scanned.{Scanned}
-use Rattle.text_reading.specs.declared.Scanned.the-variants as scanned
-use Rattle.text_reading.specs.declared.Taken.{Taken}
-use Rattle.text_reading.specs.declared.Taken.the-variants.{Said, Nothing}
-use Rattle.text_reading.proofs.Ranging.{end-whole, end-early}
+use Rattle.text_split.specs.Text.{Text, line, rest, split}
+use Rattle.text_place.specs.Places.{start, isRow}
+use Rattle.text_ranges.specs.Ranges.{saying}
+use Rattle.text_order.specs.Order.{moved}
+use Rattle.text_taken.specs.Taking.{refusedAt, takenOf, refusalOfLine, endOf}
+use Rattle.text_reading.specs.Reading.{onward, reading, readingOf}
+use Rattle.text_entries.specs.declared.Entry.{Entry}
+use Rattle.text_order.specs.declared.Kind.{Kind}
+use Rattle.text_place.specs.declared.Place.{Place}
+use Rattle.text_taken.specs.declared.Scanned.{Scanned}
+use Rattle.text_taken.specs.declared.Scanned.the-variants as scanned
+use Rattle.text_taken.specs.declared.Taken.{Taken}
+use Rattle.text_taken.specs.declared.Taken.the-variants.{Said, Nothing}
+use Rattle.text_taken.proofs.Ending.{end-whole, end-early}
 
 abbrev pub EndsBy : (ℕ → Type 0) → Scanned → Type 0
 EndsBy P (scanned.Whole p) = Unit {0}
@@ -52,4 +55,4 @@ module _ (P : ℕ → Type 0) (line-number : (c : LineCause) (n : ℕ) → P (re
 
   pub reading-refused : (kind : Kind) (s : List ℕ) → EndsBy P (readingOf kind s .end)
   unfolding readingOf
-  reading-refused kind s = text-refused kind (split s) start 1
+  reading-refused kind s = text-refused kind (split s) start _

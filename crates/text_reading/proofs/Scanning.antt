@@ -14,18 +14,21 @@ use lib.ListN.{length, take, drop, drop-of-length-le}
 use lib.Seq.{sets, drop-cons}
 use Rattle.text_lines.specs.declared.LineCause.the-variants.{Form}
 use Rattle.text_lines.specs.declared.Line.{Line}
-use Rattle.text_reading.specs.Text.{split}
-use Rattle.text_reading.specs.Code.{span, keptAll}
-use Rattle.text_reading.specs.Order.{start, saying, moved}
-use Rattle.text_reading.specs.Reading.{refusedAt, takenOf, refusalOfLine, Reading, stops, told, endOf, reading, readingOf}
-use Rattle.text_reading.specs.Said.{masksOf, rowsOf, rowBitsOf}
-use Rattle.text_reading.specs.declared.Kind.{Kind}
-use Rattle.text_reading.specs.declared.Place.{Place}
-use Rattle.text_reading.specs.declared.Entry.{Entry}
-use Rattle.text_reading.specs.declared.Taken.the-variants.{Said, Nothing}
-use Rattle.text_reading.specs.declared.Scanned.{Scanned}
-use Rattle.text_reading.specs.declared.Scanned.the-variants.{Refused}
-use Rattle.text_reading.proofs.Splitting.{split-line-at, split-rest-at}
+use Rattle.text_split.specs.Text.{split, span}
+use Rattle.text_entries.specs.Kept.{keptAll}
+use Rattle.text_place.specs.Places.{start}
+use Rattle.text_ranges.specs.Ranges.{saying}
+use Rattle.text_order.specs.Order.{moved}
+use Rattle.text_taken.specs.Taking.{refusedAt, takenOf, refusalOfLine, endOf}
+use Rattle.text_reading.specs.Reading.{Reading, stops, told, reading, readingOf}
+use Rattle.text_entries.specs.Said.{masksOf, rowsOf, rowBitsOf}
+use Rattle.text_order.specs.declared.Kind.{Kind}
+use Rattle.text_place.specs.declared.Place.{Place}
+use Rattle.text_entries.specs.declared.Entry.{Entry}
+use Rattle.text_taken.specs.declared.Taken.the-variants.{Said, Nothing}
+use Rattle.text_taken.specs.declared.Scanned.{Scanned}
+use Rattle.text_taken.specs.declared.Scanned.the-variants.{Refused}
+use Rattle.text_split.proofs.Splitting.{split-line-at, split-rest-at}
 use Rattle.text_reading.proofs.Keeping.{Lists, kept, filled, Long, filled-none, filled-step, moved-counts, filled-long}
 
 pub record Left (kind : Kind) (s : List ℕ) (l₀ l : Lists) (p : Place) (n at : ℕ) : Type 0 where

@@ -1,6 +1,2 @@
--- The reading of a whole text: its lines, their order and ranges, and what they say.
-pub mod Text
-pub mod Order
+-- The reading of a whole text.
 pub mod Reading
-pub mod Said
-pub mod Code

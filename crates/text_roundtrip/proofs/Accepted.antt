@@ -19,25 +19,26 @@ use Rattle.refusal_causes.specs.declared.Cause.{Cause}
 use Rattle.refusal_causes.specs.declared.Written.{Written}
 use Rattle.refusal_causes.specs.declared.Written.the-variants as written
 use Rattle.refusal_causes.specs.Outcome.{Outcome}
-use Rattle.machine_register.specs.declared.Settings.{Settings}
+use Rattle.machine_settings.specs.declared.Settings.{Settings}
 use Rattle.machine_register.proofs.Causes.{cells-within}
-use Rattle.machine_register.specs.Machine.{Machine, machine}
+use Rattle.machine_settings.specs.Machine.{Machine, machine}
 use Rattle.machine_slices.specs.declared.TestSlice.{TestSlice}
 use Rattle.machine_slices.specs.Slices.{paired}
-use Rattle.refusal_checks.specs.Order.{judged}
+use Rattle.refusal_order.specs.Order.{judged}
 use Rattle.refusal_checks.specs.Calls.{setFaults, cubesFaults}
-use Rattle.refusal_checks.specs.declared.Verdict.{Verdict}
-use Rattle.refusal_checks.specs.declared.Verdict.the-variants as verdict
+use Rattle.refusal_order.specs.declared.Verdict.{Verdict}
+use Rattle.refusal_order.specs.declared.Verdict.the-variants as verdict
 use Rattle.refusal_checks.proofs.Stopped.{set-formed}
 use Rattle.theory_cutting.specs.Cutting.{Covering, no-state, state}
-use Rattle.stop.specs.Steps.{stopFor}
+use Rattle.stop_steps.specs.Steps.{stopFor}
 use Rattle.theory_covering.specs.Rules.{Rules, rules}
 use Rattle.theory_covering.specs.Windows.{CoveredBy}
-use Rattle.expander.specs.Expanding.{expandList}
-use Rattle.encoder.specs.Encoding.{CubesOutcome, stopped, withStop, encodeCubes}
-use Rattle.encoder.specs.Meaning.{Delivers, Shortest, SetMeaning, StoppedMeaning}
-use Rattle.encoder.specs.declared.Encoded.the-variants as encoded
-use Rattle.encoder.proofs.Cubes.{cubes-means}
+use Rattle.expander_meaning.specs.Expanding.{expandList}
+use Rattle.encoder_cubes.specs.Cubes.{CubesOutcome, stopped, withStop, encodeCubes}
+use Rattle.encoder_meaning.specs.Meaning.{Delivers, Shortest, SetMeaning}
+use Rattle.encoder_cubes.specs.Meaning.{StoppedMeaning}
+use Rattle.encoder_cubes.specs.declared.Encoded.the-variants as encoded
+use Rattle.encoder_cubes.proofs.Cubes.{cubes-means}
 
 -- Refused is no list.
 refused-seeds : (c : Cause) (stop : TestSlice) (n : ℕ) → encoded.Refused c ≡ encoded.Seeds stop n → ⊥

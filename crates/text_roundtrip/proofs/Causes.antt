@@ -13,15 +13,15 @@ use lib.Dec.{ltb, leb}
 use Rattle.refusal_causes.specs.declared.Cause.{Cause}
 use Rattle.refusal_causes.specs.declared.Cause.the-variants as cause
 use Rattle.refusal_causes.specs.Sheet.{refusalOf}
-use Rattle.machine_register.specs.Machine.{Machine}
+use Rattle.machine_settings.specs.Machine.{Machine}
 use Rattle.machine_slices.specs.declared.TestSlice.{TestSlice}
-use Rattle.refusal_checks.specs.Order.{Test, tests, firstOf, judged}
-use Rattle.refusal_checks.specs.declared.Faults.{Faults}
-use Rattle.refusal_checks.specs.declared.Verdict.the-variants as verdict
+use Rattle.refusal_order.specs.Order.{Test, tests, firstOf, judged}
+use Rattle.refusal_order.specs.declared.Faults.{Faults}
+use Rattle.refusal_order.specs.declared.Verdict.the-variants as verdict
 use Rattle.theory_covering.specs.Rules.{Rules}
-use Rattle.expander.specs.Run.{Given, gives, fails, ending, delivers, firstStop}
-use Rattle.expander.specs.Expanding.{Walk, ran, failed, after, isLast, walk}
-use Rattle.expander.proofs.OneSeed.{walk-fails, walk-gives}
+use Rattle.expander_meaning.specs.Run.{Given, gives, fails, ending, delivers, firstStop}
+use Rattle.expander_meaning.specs.Expanding.{Walk, ran, failed, after, isLast, walk}
+use Rattle.expander_meaning.proofs.OneSeed.{walk-fails, walk-gives}
 
 abbrev pub Other : Cause → Type 0
 Other cause.Register = Unit {0}

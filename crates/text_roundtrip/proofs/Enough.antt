@@ -4,9 +4,10 @@ use mathlib.Core.Path.{_≡_}
 use mathlib.Core.List.{List}
 use Prim.Native.Nat.{ℕ}
 use lib.ListN.{take}
-use Rattle.text_reading.specs.declared.Kind.the-variants as kinds
+use Rattle.text_order.specs.declared.Kind.the-variants as kinds
 use Rattle.text_reading.proofs.Enough.{enough, enough-reads}
-use Rattle.text.specs.Replies.{encodeReply, expandReply, encodeText, expandText}
+use Rattle.text_encode.specs.EncodeText.{encodeReply, encodeText}
+use Rattle.text_expand.specs.ExpandText.{expandReply, expandText}
 
 pub encode-enough : (s : List ℕ) → encodeText (take enough s) ≡ encodeText s
 unfolding encodeText encodeReply

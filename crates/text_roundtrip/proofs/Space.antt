@@ -16,37 +16,43 @@ use Rattle.refusal_causes.specs.declared.Written.{Written}
 use Rattle.refusal_causes.specs.declared.Written.the-variants as written
 use Rattle.refusal_causes.specs.Outcome.{Outcome, refuse, fill}
 use Rattle.refusal_causes.proofs.Outcome.{fill-whole}
-use Rattle.machine_register.specs.declared.Settings.{Settings}
-use Rattle.machine_register.specs.Machine.{machine}
+use Rattle.machine_settings.specs.declared.Settings.{Settings}
+use Rattle.machine_settings.specs.Machine.{machine}
 use Rattle.machine_slices.specs.declared.TestSlice.{TestSlice}
 use Rattle.machine_slices.specs.Slices.{paired}
 use Rattle.machine_slices.proofs.Formed.{slices-length}
-use Rattle.refusal_checks.specs.Order.{judged}
+use Rattle.refusal_order.specs.Order.{judged}
 use Rattle.refusal_checks.specs.Calls.{setFaults, cubesFaults, listFaults}
-use Rattle.refusal_checks.specs.declared.Verdict.{Verdict}
-use Rattle.refusal_checks.specs.declared.Verdict.the-variants as verdict
-use Rattle.refusal_checks.proofs.Lengths.{set-within, list-within}
-use Rattle.refusal_checks.proofs.Order.{formed-well}
+use Rattle.refusal_order.specs.declared.Verdict.{Verdict}
+use Rattle.refusal_order.specs.declared.Verdict.the-variants as verdict
+use Rattle.refusal_lengths.proofs.Lengths.{set-within, list-within}
+use Rattle.refusal_order.proofs.Order.{formed-well}
 use Rattle.refusal_checks.proofs.Stopped.{set-formed}
 use Rattle.theory_cutting.proofs.Parts.{covering-length, cuts-count}
-use Rattle.stop.specs.Steps.{stopFor}
+use Rattle.stop_steps.specs.Steps.{stopFor}
 use Rattle.theory_covering.specs.Rules.{rules}
 use Rattle.theory_covering.specs.Windows.{CoveredBy, ok}
 use Rattle.theory_covering.proofs.Windows.{set-bounds}
-use Rattle.expander.specs.Expanding.{Walk, ran, failed, walk, totalled, expanding, expandList}
-use Rattle.encoder.specs.Encoding.{CubesOutcome, stopped, withStop, encodeCubes}
-use Rattle.encoder.specs.Meaning.{Listed, SetMeaning}
-use Rattle.encoder.specs.declared.Encoded.{Encoded}
-use Rattle.encoder.specs.declared.Encoded.the-variants as encodings
-use Rattle.encoder.proofs.Cubes.{cubes-means}
-use Rattle.encoder.proofs.Seeds.{covering-cuts}
+use Rattle.expander_meaning.specs.Expanding.{Walk, ran, failed, walk, totalled, expanding, expandList}
+use Rattle.encoder_cubes.specs.Cubes.{CubesOutcome, stopped, withStop, encodeCubes}
+use Rattle.encoder_meaning.specs.Meaning.{Listed, SetMeaning}
+use Rattle.encoder_cubes.specs.declared.Encoded.{Encoded}
+use Rattle.encoder_cubes.specs.declared.Encoded.the-variants as encodings
+use Rattle.encoder_cubes.proofs.Cubes.{cubes-means}
+use Rattle.encoder_meaning.proofs.Seeds.{covering-cuts}
 use Rattle.text_lines.specs.declared.LineCause.{LineCause}
 use Rattle.text_lines.specs.declared.LineCause.the-variants as lineCause
-use Rattle.text_reading.specs.Reading.{causeOf, refusedAt}
-use Rattle.text_reading.specs.declared.Kind.the-variants as kinds
+use Rattle.text_taken.specs.Taking.{causeOf, refusedAt}
+use Rattle.text_order.specs.declared.Kind.the-variants as kinds
 use Rattle.text_reading.proofs.Refusals.{reading-refused}
-use Rattle.text.specs.Replies.{lent, encoded, expanded, sheetReply, seedListReply, encodeReply, expandReply}
-use Rattle.text.proofs.Refusals.{concluded-refused, list-refused, slices-refused}
+use Rattle.text_replies.specs.Replies.{lent}
+use Rattle.text_encode_said.specs.Encoded.{encoded}
+use Rattle.text_expand_said.specs.Expanded.{expanded}
+use Rattle.text_encode.specs.EncodeText.{sheetReply, encodeReply}
+use Rattle.text_expand.specs.ExpandText.{seedListReply, expandReply}
+use Rattle.text_replies.proofs.Refusals.{concluded-refused}
+use Rattle.text_encode_said.proofs.Refusals.{list-refused}
+use Rattle.text_expand_said.proofs.Refusals.{slices-refused}
 use Rattle.text_roundtrip.specs.RoundTrip.{NotShort}
 use Rattle.text_roundtrip.proofs.Causes.{Other, other-number, judged-other, walk-other}
 

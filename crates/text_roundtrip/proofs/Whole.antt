@@ -13,30 +13,35 @@ use Rattle.refusal_causes.specs.declared.Refusal.{Refusal}
 use Rattle.refusal_causes.specs.Outcome.{Outcome, fill}
 use Rattle.refusal_causes.proofs.Outcome.{fill-whole}
 use mathlib.Core.Option.{some}
-use Rattle.machine_register.specs.Machine.{machine, base}
+use Rattle.machine_settings.specs.Machine.{machine, base}
 use Rattle.machine_slices.specs.declared.TestSlice.{TestSlice}
 use Rattle.machine_slices.specs.Slices.{agrees, paired}
 use Rattle.machine_slices.proofs.Formed.{slices-length}
-use Rattle.refusal_checks.proofs.Lengths.{set-within}
+use Rattle.refusal_lengths.proofs.Lengths.{set-within}
 use Rattle.refusal_checks.proofs.Stopped.{set-formed}
 use Rattle.text_keys.specs.declared.Key.the-variants as key
-use Rattle.stop.specs.Steps.{stopFor}
+use Rattle.stop_steps.specs.Steps.{stopFor}
 use Rattle.theory_covering.specs.Rules.{rules}
-use Rattle.encoder.specs.Encoding.{CubesOutcome, encodeCubes}
-use Rattle.encoder.specs.Meaning.{Shortest}
-use Rattle.encoder.specs.declared.Encoded.{Encoded}
-use Rattle.encoder.specs.declared.Encoded.the-variants as encodings
+use Rattle.encoder_cubes.specs.Cubes.{CubesOutcome, encodeCubes}
+use Rattle.encoder_meaning.specs.Meaning.{Shortest}
+use Rattle.encoder_cubes.specs.declared.Encoded.{Encoded}
+use Rattle.encoder_cubes.specs.declared.Encoded.the-variants as encodings
 use Rattle.text_reading.specs.Reading.{readingOf}
-use Rattle.text_reading.specs.Said.{masksOf, rowsOf, rowBitsOf, numberFor}
-use Rattle.text_reading.specs.declared.Kind.the-variants as kinds
-use Rattle.text_reading.specs.declared.Scanned.{Scanned}
-use Rattle.text_reading.specs.declared.Scanned.the-variants as scanned
-use Rattle.text_writing.specs.Writing.{sliceLines, listText}
+use Rattle.text_entries.specs.Said.{masksOf, rowsOf, rowBitsOf, numberFor}
+use Rattle.text_order.specs.declared.Kind.the-variants as kinds
+use Rattle.text_taken.specs.declared.Scanned.{Scanned}
+use Rattle.text_taken.specs.declared.Scanned.the-variants as scanned
+use Rattle.text_write_slices.specs.Slices.{sliceLines}
+use Rattle.text_write_list.specs.SeedList.{listText}
 use Rattle.text_readback.specs.Written.{Printable}
 use Rattle.text_readback.proofs.Whole.{read-back}
 use Rattle.text_readback.proofs.Said.{masks-back, rows-back, cells-back, taps-back, slices-back, stop-back}
-use Rattle.text.specs.Replies.{Reply, text, refused, lent, listReply, slicesReply, encoded, expanded, sheetReply, seedListReply, concluded, encodeReply, expandReply}
-use Rattle.text.proofs.Space.{encode-long}
+use Rattle.text_replies.specs.Replies.{Reply, text, refused, lent, concluded}
+use Rattle.text_encode_said.specs.Encoded.{listReply, encoded}
+use Rattle.text_expand_said.specs.Expanded.{slicesReply, expanded}
+use Rattle.text_encode.specs.EncodeText.{sheetReply, encodeReply}
+use Rattle.text_expand.specs.ExpandText.{seedListReply, expandReply}
+use Rattle.text_encode_said.proofs.Space.{encode-long}
 use Rattle.text_roundtrip.specs.RoundTrip.{sheetOf, Quoted, GivesBack}
 use Rattle.text_roundtrip.proofs.Accepted.{cubes-accepted}
 

@@ -11,20 +11,22 @@ use mathlib.Core.List.{List}
 use Prim.Native.Nat.{ℕ, _<_}
 use lib.ListN.{length, getD}
 use mathlib.Core.Option.{some}
-use Rattle.machine_register.specs.declared.Settings.{Settings}
-use Rattle.machine_register.specs.Machine.{machine, base}
+use Rattle.machine_settings.specs.declared.Settings.{Settings}
+use Rattle.machine_settings.specs.Machine.{machine, base}
 use Rattle.machine_slices.specs.declared.TestSlice.{TestSlice}
 use Rattle.machine_slices.specs.Slices.{agrees, paired}
-use Rattle.stop.specs.Steps.{stopFor}
+use Rattle.stop_steps.specs.Steps.{stopFor}
 use Rattle.theory_covering.specs.Rules.{rules}
-use Rattle.encoder.specs.Meaning.{Shortest}
+use Rattle.encoder_meaning.specs.Meaning.{Shortest}
 use Rattle.text_keys.specs.declared.Key.the-variants as key
 use Rattle.text_reading.specs.Reading.{readingOf}
-use Rattle.text_reading.specs.Said.{masksOf, rowsOf, rowBitsOf, numberFor}
-use Rattle.text_reading.specs.declared.Entry.{Entry}
-use Rattle.text_reading.specs.declared.Kind.the-variants as kinds
-use Rattle.text_writing.specs.Writing.{sliceLines, listText}
-use Rattle.text.specs.Replies.{Reply, RefusedBy, text, expandReply}
+use Rattle.text_entries.specs.Said.{masksOf, rowsOf, rowBitsOf, numberFor}
+use Rattle.text_entries.specs.declared.Entry.{Entry}
+use Rattle.text_order.specs.declared.Kind.the-variants as kinds
+use Rattle.text_write_slices.specs.Slices.{sliceLines}
+use Rattle.text_write_list.specs.SeedList.{listText}
+use Rattle.text_replies.specs.Replies.{Reply, RefusedBy, text}
+use Rattle.text_expand.specs.ExpandText.{expandReply}
 
 abbrev pub sheetOf : List ℕ → List Entry
 sheetOf s = readingOf kinds.Sheet s .entries

@@ -18,8 +18,8 @@ use lib.Seq.{drop-cons}
 use borrow.Author.Tests.{ltb-true, ltb-false, leb-true, lt-ltb, le-leb}
 use Rattle.words_bounded.proofs.Tests.{both, and-yes}
 use Rattle.theory_cutting.specs.Meaning.{Suffix}
-use Rattle.machine_register.specs.declared.Settings.{Settings}
-use Rattle.machine_register.specs.Machine.{base}
+use Rattle.machine_settings.specs.declared.Settings.{Settings}
+use Rattle.machine_settings.specs.Machine.{base}
 use Rattle.machine_slices.specs.declared.TestSlice.{TestSlice}
 use Rattle.theory_covering.specs.Rules.{Rules, rules}
 use Rattle.theory_covering.specs.Windows.{part, before, far, placed}

@@ -13,18 +13,18 @@ use Rattle.words_bounded.specs.Bounded.{Least, NoneBelow, leastBelow}
 use Rattle.words_bounded.proofs.Tests.{clash}
 use Rattle.words_bounded.proofs.Search.{LeastIs, least-is}
 use Rattle.refusal_causes.specs.declared.Cause.{Cause}
-use Rattle.machine_register.specs.declared.Settings.{Settings}
-use Rattle.machine_register.specs.Machine.{machine}
+use Rattle.machine_settings.specs.declared.Settings.{Settings}
+use Rattle.machine_settings.specs.Machine.{machine}
 use Rattle.machine_slices.specs.declared.TestSlice.{TestSlice}
 use Rattle.machine_slices.specs.Slices.{paired}
-use Rattle.refusal_checks.specs.Order.{judged}
+use Rattle.refusal_order.specs.Order.{judged}
 use Rattle.refusal_checks.specs.Calls.{windowFaults}
 use Rattle.theory_covering.specs.Covering.{covers, seedOf}
 use Rattle.theory_covering.specs.Single.{lowestOr7, windowSeed, WindowMeaning}
 use Rattle.theory_covering.specs.declared.Seed.{Seed}
 use Rattle.theory_covering.specs.declared.Seed.the-variants.{Lowest, Refused}
 use Rattle.refusal_causes.specs.declared.Cause.the-variants as cause
-use Rattle.refusal_checks.specs.declared.Verdict.the-variants as verdict
+use Rattle.refusal_order.specs.declared.Verdict.the-variants as verdict
 
 answer-cases : (o : Option ℕ) → ((s : ℕ) × (lowestOr7 o ≡ Lowest s)) ⊎ (lowestOr7 o ≡ Refused cause.NoSeed)
 unfolding lowestOr7

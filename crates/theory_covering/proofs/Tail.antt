@@ -11,7 +11,7 @@ use lib.ListN.{length}
 use Rattle.words_bounded.specs.Bounded.{leastBelow}
 use Rattle.words_bounded.proofs.Tests.{clash, both, and-yes}
 use Rattle.words_bounded.proofs.Search.{least-is, LeastIs}
-use Rattle.machine_register.specs.Machine.{Machine}
+use Rattle.machine_settings.specs.Machine.{Machine}
 use Rattle.machine_slices.specs.declared.TestSlice.{TestSlice}
 use Rattle.machine_slices.specs.Slices.{agrees, shows}
 use Rattle.theory_covering.specs.Covering.{fits, quiet, covers, seedOf}

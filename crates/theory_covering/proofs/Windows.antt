@@ -16,8 +16,8 @@ use Rattle.words_bounded.proofs.Tests.{both, and-yes}
 use Rattle.theory_cutting.specs.Meaning.{Bounds}
 use Rattle.theory_cutting.specs.Meaning as cutting
 use Rattle.theory_cutting.proofs.Parts.{suffix-under}
-use Rattle.machine_register.specs.declared.Settings.{Settings}
-use Rattle.machine_register.specs.Machine.{Machine}
+use Rattle.machine_settings.specs.declared.Settings.{Settings}
+use Rattle.machine_settings.specs.Machine.{Machine}
 use Rattle.machine_slices.specs.declared.TestSlice.{TestSlice}
 use Rattle.theory_covering.specs.Covering.{covers, seedOf}
 use Rattle.theory_covering.specs.Rules.{Rules, rules}

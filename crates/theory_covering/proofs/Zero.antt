@@ -6,8 +6,8 @@ use mathlib.Core.List.{List, [], _∷_}
 use Prim.Native.Nat.{ℕ}
 use Rattle.words_bounded.proofs.Tests.{clash, both}
 use borrow.Author.Tests.{not-true}
-use Rattle.machine_register.specs.declared.Settings.{Settings}
-use Rattle.machine_register.specs.Machine.{Machine, machine}
+use Rattle.machine_settings.specs.declared.Settings.{Settings}
+use Rattle.machine_settings.specs.Machine.{Machine, machine}
 use Rattle.machine_register.proofs.Steps.{step-zero}
 use Rattle.machine_slices.specs.declared.TestSlice.{TestSlice}
 use Rattle.machine_slices.specs.Slices.{agrees, shows}

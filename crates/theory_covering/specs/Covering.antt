@@ -10,7 +10,7 @@ use mathlib.Core.List.{List, [], _∷_}
 use Prim.Native.Nat.{ℕ, zero, suc}
 use lib.ListN.{length}
 use Rattle.words_bounded.specs.Bounded.{leastBelow}
-use Rattle.machine_register.specs.Machine.{Machine}
+use Rattle.machine_settings.specs.Machine.{Machine}
 use Rattle.machine_slices.specs.declared.TestSlice.{TestSlice}
 use Rattle.machine_slices.specs.Slices.{agrees, shows}
 

@@ -4,7 +4,7 @@
 use mathlib.Core.Bool.{Bool, false}
 use mathlib.Core.List.{List, []}
 use Prim.Native.Nat.{ℕ}
-use Rattle.machine_register.specs.declared.Settings.{Settings}
+use Rattle.machine_settings.specs.declared.Settings.{Settings}
 use Rattle.machine_slices.specs.declared.TestSlice.{TestSlice}
 
 pub record Rules : Type 0 where

@@ -11,13 +11,13 @@ use Prim.Native.Nat.{ℕ, _^_}
 use Rattle.words_bounded.specs.Bounded.{Least, NoneBelow}
 use Rattle.refusal_causes.specs.declared.Cause.{Cause}
 use Rattle.refusal_causes.specs.declared.Cause.the-variants as cause
-use Rattle.machine_register.specs.declared.Settings.{Settings}
-use Rattle.machine_register.specs.Machine.{machine}
+use Rattle.machine_settings.specs.declared.Settings.{Settings}
+use Rattle.machine_settings.specs.Machine.{machine}
 use Rattle.machine_slices.specs.declared.TestSlice.{TestSlice}
 use Rattle.machine_slices.specs.Slices.{paired}
-use Rattle.refusal_checks.specs.Order.{judged}
+use Rattle.refusal_order.specs.Order.{judged}
 use Rattle.refusal_checks.specs.Calls.{windowFaults}
-use Rattle.refusal_checks.specs.declared.Verdict.the-variants as verdict
+use Rattle.refusal_order.specs.declared.Verdict.the-variants as verdict
 use Rattle.theory_covering.specs.Covering.{covers, seedOf}
 use Rattle.theory_covering.specs.declared.Seed.{Seed}
 use Rattle.theory_covering.specs.declared.Seed.the-variants.{Lowest, Refused}

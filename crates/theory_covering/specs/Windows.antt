@@ -18,7 +18,7 @@ use mathlib.Core.List.{List, [], _∷_}
 use Prim.Native.Nat.{ℕ, _+_, _-_, _≤_, _<_, min}
 use lib.Dec.{ltb, leb, eqb}
 use lib.ListN.{length, take, drop}
-use Rattle.machine_register.specs.Machine.{Machine}
+use Rattle.machine_settings.specs.Machine.{Machine}
 use Rattle.machine_slices.specs.declared.TestSlice.{TestSlice}
 use Rattle.theory_covering.specs.Covering.{covers, seedOf}
 use Rattle.theory_covering.specs.Rules.{Rules}

@@ -3,7 +3,7 @@
 use borrow.Author.Needs.{needs}
 use Rattle.encode.proofs.reply.Statement.{statement}
 use Rattle.encode.proofs.reply.Tie as tie
-use Rattle.text.proofs.Space.{encode-prints}
+use Rattle.text_encode.proofs.Space.{encode-prints}
 
 encode-text-requires : tie.Need-encode-text-requires
 encode-text-requires c κs = search needs

@@ -3,7 +3,7 @@
 use borrow.Author.Needs.{needs}
 use Rattle.expand.proofs.reply.Statement.{statement}
 use Rattle.expand.proofs.reply.Tie as tie
-use Rattle.text.proofs.Space.{expand-prints}
+use Rattle.text_expand.proofs.Space.{expand-prints}
 
 expand-text-requires : tie.Need-expand-text-requires
 expand-text-requires c κs = search needs

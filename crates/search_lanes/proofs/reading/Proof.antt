@@ -8,7 +8,7 @@ use lib.ListN.{length, take, getD}
 use Rattle.words_bounded.proofs.Front.{take-lesser}
 use Rattle.words_gf2.specs.Words.{odd}
 use Rattle.words_gf2.proofs.Parity.{odd-lt}
-use Rattle.search_space.specs.Space.{pick}
+use Rattle.search_members.specs.Members.{pick}
 use Rattle.search_lanes.specs.Lanes.{readings}
 use Rattle.search_lanes.proofs.Lanes.{Lanes, lanes-start, lanes-next, word-is}
 use Rattle.search_lanes.proofs.reading.Statement.{statement}

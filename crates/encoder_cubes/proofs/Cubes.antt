@@ -1,0 +1,95 @@
+-- The whole call for cubes, with the stop slice of the steps.
+--     stop-set                      with the stop slice of the steps, they are a set
+--     cubes-unstopped, cubes-stopped     the encoding of well-formed cubes, by the steps
+--     cubes-refused, cubes-well     the outcome of the call, by the checks
+--     cubes-means, cubes-outcome    it means what it says
+-- Assumes nothing.
+use mathlib.Core.Path.{_≡_, sym, ap, _∙_}
+use mathlib.Core.Option.{none, some}
+use mathlib.Core.List.{List}
+use Prim.Native.Nat.{ℕ}
+use lib.ListN.{length}
+use Rattle.refusal_causes.specs.declared.Cause.{Cause}
+use Rattle.machine_settings.specs.declared.Settings.{Settings}
+use Rattle.machine_settings.specs.Machine.{machine}
+use Rattle.machine_slices.specs.declared.TestSlice.{TestSlice}
+use Rattle.machine_slices.specs.Slices.{paired}
+use Rattle.refusal_order.specs.Order.{judged}
+use Rattle.refusal_checks.specs.Calls.{setFaults, cubesFaults}
+use Rattle.refusal_order.specs.declared.Verdict.{Verdict}
+use Rattle.stop_steps.specs.Steps.{stopFor}
+use Rattle.stop_steps.specs.Meaning.{StopMeaning}
+use Rattle.stop_steps.proofs.Meaning.{stop-means, six-means}
+use Rattle.stop_slice.proofs.Calls.{some-slice}
+use Rattle.theory_covering.specs.Rules.{rules}
+use Rattle.encoder_meaning.specs.Encoding.{encoding, encodeSet}
+use Rattle.encoder_cubes.specs.Cubes.{withStop, cubesEncoding, encodeCubes}
+use Rattle.encoder_cubes.specs.Meaning.{StoppedMeaning, CubesMeaning}
+use Rattle.encoder_cubes.specs.Formed.{CubesFormed}
+use Rattle.encoder_cubes.specs.declared.Encoded.{Encoded}
+use Rattle.encoder_cubes.specs.declared.Encoded.the-variants.{Refused}
+use Rattle.encoder_cubes.proofs.Formed.{cubes-formed, cubes-stop, cubes-set}
+use Rattle.encoder_meaning.proofs.Calls.{set-well, set-means}
+use Rattle.refusal_causes.specs.declared.Cause.the-variants as cause
+use Rattle.refusal_order.specs.declared.Verdict.the-variants as verdict
+
+module _ (g : Settings) (masks ps bs : List ℕ) where
+  abbrev set : List TestSlice
+  set = paired ps bs
+
+  abbrev c : ℕ
+  c = length masks
+
+  module _ (f : CubesFormed g masks ps bs) where
+    -- the stop slice of the steps makes them a set
+    stop-meaning : (stop : TestSlice) → stopFor c set ≡ some stop → StopMeaning c set stop
+    stop-meaning stop e = stop-means c set stop (some-slice c ps bs (cubes-stop g masks ps bs f)) e
+
+    pub stop-set : (stop : TestSlice) → stopFor c set ≡ some stop → judged (setFaults g masks stop ps bs) ≡ verdict.WellFormed
+    stop-set stop e = cubes-set g masks ps bs f stop (stop-meaning stop e .formed)
+
+  module _ (out : List ℕ) where
+    pub cubes-unstopped : stopFor c set ≡ none → cubesEncoding g masks ps bs out ≡ record { answer = Refused cause.SlicesIn; buffer = out }
+    unfolding cubesEncoding
+    cubes-unstopped e = rw (e, cubesEncoding)
+
+    pub cubes-stopped : (stop : TestSlice) → stopFor c set ≡ some stop → cubesEncoding g masks ps bs out ≡ withStop stop (encoding (machine g masks) (rules g stop) set out)
+    unfolding cubesEncoding
+    cubes-stopped stop e = rw (e, cubesEncoding)
+
+    module _ (depth : ℕ) where
+      abbrev verdict-of : Verdict
+      verdict-of = judged (cubesFaults g masks depth ps bs)
+
+      pub cubes-refused : (k : Cause) → verdict-of ≡ verdict.Refused k → encodeCubes g masks depth ps bs out ≡ record { answer = Refused k; buffer = out }
+      unfolding encodeCubes
+      cubes-refused k w = rw (w, encodeCubes)
+
+      pub cubes-well : verdict-of ≡ verdict.WellFormed → encodeCubes g masks depth ps bs out ≡ cubesEncoding g masks ps bs out
+      unfolding encodeCubes
+      cubes-well w = rw (w, encodeCubes)
+
+      stopped : verdict-of ≡ verdict.WellFormed → (stop : TestSlice) → stopFor c set ≡ some stop → StoppedMeaning g masks ps bs out stop (encodeCubes g masks depth ps bs out)
+      stopped w stop e =
+          let f = cubes-formed g masks ps bs depth w in
+          let s = stop-set f stop e in
+          record {
+            steps = stop-meaning f stop e;
+            formed = s;
+            handed = encodeSet g masks stop ps bs out;
+            outcome = cubes-well w ∙ cubes-stopped stop e ∙ ap (withStop stop) (sym (set-well g masks stop ps bs out s));
+            meaning = set-means g masks stop ps bs out;
+          }
+
+      pub cubes-means : CubesMeaning g masks depth ps bs out (encodeCubes g masks depth ps bs out)
+      cubes-means = record {
+        refused = cubes-refused;
+        unstopped = λ w e. (cubes-well w ∙ cubes-unstopped e, six-means c set e);
+        stopped = stopped;
+      }
+
+      -- an outcome that is the definition's, with its meaning
+      pub cubes-outcome : (answer : Encoded) (buffer : List ℕ) → answer ≡ encodeCubes g masks depth ps bs out .answer → buffer ≡ encodeCubes g masks depth ps bs out .buffer
+          → (answer ≡ encodeCubes g masks depth ps bs out .answer)
+          × ((buffer ≡ encodeCubes g masks depth ps bs out .buffer) × CubesMeaning g masks depth ps bs out (record { answer = answer; buffer = buffer }))
+      cubes-outcome answer buffer e q = (e, (q, rw (e, q) cubes-means))

@@ -1,0 +1,67 @@
+-- `encoder_cubes::encode_formed` meets its contract. Assumes nothing.
+use mathlib.Core.Path.{sym, ap, _∙_}
+use lib.ListN.{length}
+use borrow.Author.Needs.{needs}
+use Rattle.encoder_cubes.specs.Cubes.{CubesOutcome, stopped, withStop}
+use Rattle.encoder_cubes.specs.declared.Encoded.the-variants.{Refused}
+use Rattle.stop_slice.proofs.Calls.{steps-refused, steps-stop}
+use Rattle.encoder_cubes.proofs.Formed.{cubes-stop}
+use Rattle.encoder_cubes.proofs.Cubes.{stop-set, cubes-unstopped, cubes-stopped}
+use Rattle.encoder_cubes.proofs.encode_formed.Statement.{statement}
+use Rattle.encoder_cubes.proofs.encode_formed.Tie as tie
+
+stop-slice-requires : tie.Need-stop-slice-requires
+stop-slice-requires c κs = search needs
+
+enum-known-formed : tie.Need-enum-known-formed
+enum-known-formed c = search needs
+
+enum-known-formed-2 : tie.Need-enum-known-formed-2
+enum-known-formed-2 c = search needs
+
+encode-requires : tie.Need-encode-requires
+encode-requires c κs =
+    let s = c .before .before .before .before .before .before .before .before .before in
+    let a = s .args in
+    let k = c .before .before .before .before .stop-slice in
+    let e = steps-stop (length (a .masks .now)) (a .specified .now) (a .bits .now) (cubes-stop (a .settings) (a .masks .now) (a .specified .now) (a .bits .now) (s .pre .0)) _ (sym (k .ensures) ∙ c .before .before .formed2 .given .1) in
+    (stop-set (a .settings) (a .masks .now) (a .specified .now) (a .bits .now) (s .pre .0) _ e, s .pre .1)
+
+with-stop-requires : tie.Need-with-stop-requires
+with-stop-requires c κs = search needs
+
+returns : tie.Need-returns
+returns c =
+    let s = c .before .before .before .before .before .before .before .before in
+    let a = s .args in
+    let k = c .before .before .before .stop-slice in
+    let e = steps-refused (length (a .masks .now)) (a .specified .now) (a .bits .now) (cubes-stop (a .settings) (a .masks .now) (a .specified .now) (a .bits .now) (s .pre .0)) _ (sym (k .ensures) ∙ c .before .formed .given .1) in
+    let o = cubes-unstopped (a .settings) (a .masks .now) (a .specified .now) (a .bits .now) (a .out .now) (e .0) in
+    (ap Refused (e .1) ∙ sym (ap (λ (u : CubesOutcome). u .answer) o), sym (ap (λ (u : CubesOutcome). u .buffer) o))
+
+same-length : tie.Need-same-length
+same-length c = search needs
+
+returns-2 : tie.Need-returns-2
+unfolding withStop
+returns-2 c =
+    let s = c .before .before .before .before .before .before .before .before .before .before .before .before .before in
+    let a = s .args in
+    let k = c .before .before .before .before .before .before .before .before .stop-slice in
+    let t = c .before .before .before .encode in
+    let e = steps-stop (length (a .masks .now)) (a .specified .now) (a .bits .now) (cubes-stop (a .settings) (a .masks .now) (a .specified .now) (a .bits .now) (s .pre .0)) _ (sym (k .ensures) ∙ c .before .before .before .before .before .before .formed2 .given .1) in
+    let o = cubes-stopped (a .settings) (a .masks .now) (a .specified .now) (a .bits .now) (a .out .now) _ e in
+    (c .with-stop .ensures ∙ ap (stopped _) (t .ensures .0) ∙ sym (ap (λ (u : CubesOutcome). u .answer) o), t .ensures .1 ∙ sym (ap (λ (u : CubesOutcome). u .buffer) o))
+
+pub encode-formed-spec : {M : Type 1} → statement M
+encode-formed-spec =
+    tie.close
+    (tie.spec
+    stop-slice-requires
+    enum-known-formed
+    enum-known-formed-2
+    encode-requires
+    with-stop-requires
+    returns
+    same-length
+    returns-2)

@@ -1,0 +1,4 @@
+-- The laws of gathering, and the proofs of the functions.
+pub mod Reaching
+pub mod Starts
+pub mod Gathering

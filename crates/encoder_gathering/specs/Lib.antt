@@ -1,0 +1,2 @@
+-- What gathering the windows of a set gives.
+pub mod Gathering

@@ -1,0 +1,4 @@
+-- The laws of what the answer of an encoding means.
+pub mod Seeds
+pub mod Meaning
+pub mod Calls

@@ -1,0 +1,3 @@
+-- The encoding of a set with its stop slice, and what its answer means.
+pub mod Encoding
+pub mod Meaning

@@ -1,0 +1,107 @@
+-- `encoder_sets::encode` meets its contract. Assumes nothing.
+use mathlib.Core.Path.{_≡_, sym, ap, _∙_}
+use Prim.Native.Nat.{suc, _+_, min}
+use native.Mathlib.Omega.{arith}
+use native.Mathlib.Numerals.{add-one}
+use lib.ListN.{length}
+use borrow.Author.Needs.{needs}
+use Rattle.refusal_causes.specs.Outcome.{Outcome}
+use Rattle.machine_slices.specs.Slices.{paired}
+use Rattle.machine_slices.proofs.Formed.{slices-length}
+use Rattle.refusal_lengths.proofs.Lengths.{set-within}
+use Rattle.refusal_checks.proofs.Stopped.{set-formed}
+use Rattle.window_tables.proofs.Tables.{table-room, ready-tables}
+use Rattle.encoder_sets.proofs.Encoding.{settled-encoding, gathered-held}
+use Rattle.encoder_sets.proofs.encode.Statement.{statement}
+use Rattle.encoder_sets.proofs.encode.Tie as tie
+
+lesser-requires : tie.Need-lesser-requires
+lesser-requires c κs = search needs
+
+add-rows : tie.Need-add-rows
+add-rows c = search needs
+
+slice-aggregate-fill : tie.Need-slice-aggregate-fill
+slice-aggregate-fill c = search needs
+
+fill-requires : tie.Need-fill-requires
+fill-requires c κs =
+    let s = c .before .before .before .before .before .before in
+    let a = s .args in
+    let w = set-formed (a .settings) (a .masks .now) (a .stop) (a .specified .now) (a .bits .now) (s .pre .0) in
+    table-room (c .before .lesser .result + 1) (length (a .masks .now)) (omega (arith, s .pre .1, c .before .lesser .ensures)) (w .few)
+
+slice-aggregate-fill-clauses : tie.Need-slice-aggregate-fill-clauses
+slice-aggregate-fill-clauses c = search needs
+
+fill-clauses-requires : tie.Need-fill-clauses-requires
+fill-clauses-requires c κs =
+    let s = c .before .before .before .before .before .before .before .before .before in
+    let a = s .args in
+    let w = set-formed (a .settings) (a .masks .now) (a .stop) (a .specified .now) (a .bits .now) (s .pre .0) in
+    let l = c .before .before .before .before .lesser in
+    (w .few, table-room (l .result + 1) (length (a .masks .now)) (omega (arith, s .pre .1, l .ensures)) (w .few))
+
+slice-aggregate-gather : tie.Need-slice-aggregate-gather
+slice-aggregate-gather c = search needs
+
+slice-aggregate-gather-2 : tie.Need-slice-aggregate-gather-2
+slice-aggregate-gather-2 c = search needs
+
+slice-aggregate-gather-3 : tie.Need-slice-aggregate-gather-3
+slice-aggregate-gather-3 c = search needs
+
+gather-requires : tie.Need-gather-requires
+gather-requires c κs =
+    let s = c .before .before .before .before .before .before .before .before .before .before .before .before .before .before in
+    let a = s .args in
+    let w = set-formed (a .settings) (a .masks .now) (a .stop) (a .specified .now) (a .bits .now) (s .pre .0) in
+    let l = c .before .before .before .before .before .before .before .before .before .lesser in
+    let k = c .before .before .before .before .fill-clauses in
+    let f = c .before .before .before .before .before .before .before .fill in
+    let n : l .result + 1 ≡ suc (min (a .settings .limit) (length (a .specified .now))) = add-one (l .result) ∙ ap suc (l .ensures) in (
+      rw (sym n) (ready-tables (a .settings) (a .masks .now) (a .stop) (k .result) (f .last .1 .1 .1 .0) (k .last .1 .1 .1 .1 .0) _ _ (l .result + 1) (w .register) (w .chains) (w .stop) (k .ensures .0) (f .ensures) (k .ensures .1)),
+      (w .slices, (s .pre .1, set-within (length (a .specified .now)) (w .lengths) .1, set-within (length (a .specified .now)) (w .lengths) .1)),
+    )
+
+slice-aggregate-settle : tie.Need-slice-aggregate-settle
+slice-aggregate-settle c = search needs
+
+settle-requires : tie.Need-settle-requires
+settle-requires c κs =
+    let s = c .before .before .before .before .before .before .before .before .before .before .before .before .before .before .before .before .before .before in
+    let a = s .args in
+    let r = c .before .before .before .gather in
+    gathered-held (a .settings) (a .masks .now) (a .stop) (paired (a .specified .now) (a .bits .now)) (r .result) (r .last .1 .1 .1 .1 .1 .1 .1 .1 .0) _ (r .ensures .0) (r .ensures .1)
+
+same-length : tie.Need-same-length
+same-length c = search needs
+
+returns : tie.Need-returns
+returns c =
+    let s = c .before .before .before .before .before .before .before .before .before .before .before .before .before .before .before .before .before .before .before .before .before in
+    let a = s .args in
+    let r = c .before .before .before .before .before .before .gather in
+    let t = c .before .before .settle in
+    let w = set-formed (a .settings) (a .masks .now) (a .stop) (a .specified .now) (a .bits .now) (s .pre .0) in
+    let e = settled-encoding (a .settings) (a .masks .now) (a .stop) (paired (a .specified .now) (a .bits .now)) (r .result) (r .last .1 .1 .1 .1 .1 .1 .1 .1 .0) _ (r .ensures .0) (r .ensures .1) (length (a .specified .now)) (a .out .now) (slices-length (length (a .masks .now)) (a .specified .now) (a .bits .now) (w .slices)) in
+    (t .ensures .0 ∙ ap (λ (o : Outcome). o .answer) e, t .ensures .1 ∙ ap (λ (o : Outcome). o .buffer) e)
+
+pub encode-spec : {M : Type 1} → statement M
+encode-spec =
+    tie.close
+    (tie.spec
+    lesser-requires
+    add-rows
+    slice-aggregate-fill
+    fill-requires
+    slice-aggregate-fill-clauses
+    fill-clauses-requires
+    slice-aggregate-gather
+    slice-aggregate-gather-2
+    slice-aggregate-gather-3
+    gather-requires
+    slice-aggregate-settle
+    settle-requires
+    same-length
+    returns)

@@ -1,0 +1,2 @@
+-- The laws of settling, and the proofs of the functions.
+pub mod Settling

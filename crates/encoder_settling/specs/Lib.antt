@@ -1,0 +1,2 @@
+-- The answer for the windows that were gathered.
+pub mod Settling

@@ -1,0 +1,2 @@
+-- The total of a walk over the seeds.
+pub mod Tally

@@ -1,0 +1,74 @@
+-- `expander_writing::write_all` meets its contract: the slices of the seeds passed are written, and those of the rest complete them. Assumes nothing.
+use mathlib.Core.Path.{_≡_, refl}
+use mathlib.Core.List.{List}
+use Prim.Native.Nat.{ℕ, _-_, _≤_}
+use native.Mathlib.Omega.{arith}
+use lib.ListN.{length, getD}
+use borrow.Author.Needs.{needs}
+use Rattle.machine_settings.specs.Machine.{machine}
+use Rattle.theory_covering.specs.Rules.{rules}
+use Rattle.expander_meaning.specs.Expanding.{ran, walk}
+use Rattle.expander_writing.specs.Until.{untilStop}
+use Rattle.expander_writing.proofs.Filling.{until-length, size-kept, Filled, filled-start, filled-next, filled-end}
+use Rattle.expander_writing.proofs.write_all.Statement.{statement}
+use Rattle.expander_writing.proofs.write_all.Tie as tie
+
+abbrev Inv-loop : tie.InvT-loop
+Inv-loop settings masks stop seeds out₀ at₀ place₀ out at place = ((n : ℕ) (vs : List ℕ) → walk (machine settings masks) (rules settings stop) n 0 0 seeds ≡ ran vs → length vs ≤ length out₀ → Filled settings masks stop seeds n vs out₀ place at out) × (place ≤ length seeds) × (at ≤ length out₀) × (length out ≡ length out₀)
+
+abbrev μ-loop : tie.MeasureT-loop
+μ-loop settings masks stop seeds out₀ at₀ place₀ out at place = length seeds - place
+
+loop-holds : tie.Need-loop-holds Inv-loop μ-loop
+loop-holds c = ((λ n vs w h. filled-start _ _ _ _ n vs _ w h), omega arith, omega arith, refl)
+
+mul-write-run : tie.Need-mul-write-run Inv-loop μ-loop
+mul-write-run c = search needs
+
+shared-slice-read-write-run : tie.Need-shared-slice-read-write-run Inv-loop μ-loop
+shared-slice-read-write-run c = search needs
+
+write-run-requires : tie.Need-write-run-requires Inv-loop μ-loop
+write-run-requires c κs = (c .before .before .before .before .before .before .before .pre, (let l = c .before .before .before .loop in omega (arith, l .inv .2, l .inv .3)))
+
+add-place : tie.Need-add-place Inv-loop μ-loop
+add-place c = search needs
+
+loop-less : tie.Need-loop-less Inv-loop μ-loop
+loop-less c = search needs
+
+loop-again : tie.Need-loop-again Inv-loop μ-loop
+loop-again c =
+    let w = c .before .before .write-run in
+    let l = c .before .before .before .before .before .before .loop in
+    let a = c .before .before .before .before .before .before .before .before .before .before .args in
+    let there = c .before .before .before .before .before .loop-test .taken in (
+      (λ n vs wk h. rw (w .ensures .0, w .ensures .1) (filled-next _ _ _ _ n vs _ (l .place) (l .at) (l .out) (l .inv .0 n vs wk h) there (l .inv .3))),
+      omega arith,
+      omega (arith, w .ensures .0, l .inv .2, l .inv .3, until-length (machine (a .settings) (a .masks .now)) (a .stop) (length (l .out) - l .at) (getD (a .seeds .now) (l .place) 0)),
+      size-kept (l .out) (untilStop (machine (a .settings) (a .masks .now)) (a .stop) (length (l .out) - l .at) (getD (a .seeds .now) (l .place) 0)) _ (l .at) _ (w .ensures .1) (l .inv .3),
+    )
+
+same-length : tie.Need-same-length Inv-loop μ-loop
+same-length c = c .before .loop .inv .3
+
+returns : tie.Need-returns Inv-loop μ-loop
+returns c =
+    let l = c .before .loop in
+    λ n vs wk h. filled-end _ _ _ _ n vs _ (l .place) (l .at) (l .out) (l .inv .0 n vs wk h) (c .loop-test .left)
+
+pub write-all-spec : {M : Type 1} → statement M
+write-all-spec =
+    tie.close
+    (tie.spec
+    Inv-loop
+    μ-loop
+    loop-holds
+    mul-write-run
+    shared-slice-read-write-run
+    write-run-requires
+    add-place
+    loop-less
+    loop-again
+    same-length
+    returns)

@@ -1,0 +1,2 @@
+-- The slices before a stop.
+pub mod Until

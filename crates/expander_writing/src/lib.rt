@@ -1,0 +1,60 @@
+// The slices of the seeds of a list, written into a buffer.
+use machine_register::Register;
+use machine_settings::Settings;
+use machine_slices::TestSlice;
+ghost use mathlib.Core.Path.{_≡_};
+ghost use mathlib.Core.List.{List};
+ghost use Prim.Native.Nat.{ℕ, _+_, _-_, _≤_};
+ghost use lib.ListN.{length};
+ghost use lib.Seq.{sets};
+ghost use Rattle.machine_settings.specs.Machine.{machine};
+ghost use Rattle.theory_covering.specs.Rules.{rules};
+ghost use Rattle.expander_meaning.specs.Expanding.{ran, walk};
+ghost use Rattle.expander_meaning.specs.Ready.{Ready};
+ghost use Rattle.expander_writing.specs.Until.{untilStop};
+
+// Writes the slices of a seed up to its stop, from a place of the buffer on and as far as the buffer goes; answers the place behind them.
+fn write_run(
+    settings: Settings,
+    masks: &[u64],
+    stop: TestSlice,
+    seed: u64,
+    at: usize,
+    out: &mut [u64],
+) -> usize
+    requires ready { ⌜ Ready settings (now masks) ⌝ }
+    requires place { ⌜ at ≤ length (now out) ⌝ }
+    ensures place { λ r. ⌜ r ≡ at + length (untilStop (machine settings (now (masks .entry))) stop (length (now (out .entry)) - at) seed) ⌝ }
+    ensures buffer { λ _. ⌜ now (out .exit) ≡ sets (now (out .entry)) at (untilStop (machine settings (now (masks .entry))) stop (length (now (out .entry)) - at) seed) ⌝ }
+{
+    let register = Register {
+        cells: settings.cells,
+        taps: settings.taps,
+    };
+    let mut state = seed;
+    let mut i = at;
+    while i < out.len() {
+        let slice = machine_chains::slice(masks, state);
+        if machine_slices::shows(stop, slice) {
+            break;
+        }
+        out[i] = slice;
+        state = register.step(state);
+        i += 1;
+    }
+    i
+}
+
+// Writes the slices of all seeds, one behind the other.
+// An inner function: its callers show that register and chains fit words. Where a seed is refused or the buffer is too short, nothing is promised of the entries: its caller has ruled that out.
+pub fn write_all(settings: Settings, masks: &[u64], stop: TestSlice, seeds: &[u64], out: &mut [u64])
+    requires { ⌜ Ready settings (now masks) ⌝ }
+    ensures { λ _. ⌜ ((n : ℕ) (vs : List ℕ) → walk (machine settings (now (masks .entry))) (rules settings stop) n 0 0 (now (seeds .entry)) ≡ ran vs → length vs ≤ length (now (out .entry)) → now (out .exit) ≡ sets (now (out .entry)) 0 vs) ⌝ }
+{
+    let mut at = 0;
+    let mut place = 0;
+    while place < seeds.len() {
+        at = write_run(settings, masks, stop, seeds[place], at, out);
+        place += 1;
+    }
+}

@@ -1,0 +1,2 @@
+-- What the entries for C and Rust answer.
+pub mod Answers

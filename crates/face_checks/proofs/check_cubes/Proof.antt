@@ -1,0 +1,22 @@
+-- `face_checks::check_cubes` meets its contract. Assumes nothing.
+use mathlib.Core.Path.{ap, _∙_}
+use Rattle.face_checks.specs.Verdicts.{numberOf}
+use borrow.Author.Needs.{needs}
+use Rattle.face_checks.proofs.check_cubes.Statement.{statement}
+use Rattle.face_checks.proofs.check_cubes.Tie as tie
+
+base-requires : tie.Need-base-requires
+base-requires c κs = search needs
+
+check-cubes-requires : tie.Need-check-cubes-requires
+check-cubes-requires c κs = search needs
+
+number-requires : tie.Need-number-requires
+number-requires c κs = search needs
+
+returns : tie.Need-returns
+returns c = c .number .ensures ∙ ap numberOf (rw (c .before .before .base .ensures) at (c .before .check-cubes .ensures))
+
+pub check-cubes-spec : {M : Type 1} → statement M
+check-cubes-spec =
+    tie.close (tie.spec base-requires check-cubes-requires number-requires returns)

@@ -1,0 +1,22 @@
+-- `face_checks::check_list` meets its contract. Assumes nothing.
+use mathlib.Core.Path.{ap, _∙_}
+use Rattle.face_checks.specs.Verdicts.{numberOf}
+use borrow.Author.Needs.{needs}
+use Rattle.face_checks.proofs.check_list.Statement.{statement}
+use Rattle.face_checks.proofs.check_list.Tie as tie
+
+base-requires : tie.Need-base-requires
+base-requires c κs = search needs
+
+check-list-requires : tie.Need-check-list-requires
+check-list-requires c κs = search needs
+
+number-requires : tie.Need-number-requires
+number-requires c κs = search needs
+
+returns : tie.Need-returns
+returns c = c .number .ensures ∙ ap numberOf (rw (c .before .before .base .ensures) at (c .before .check-list .ensures))
+
+pub check-list-spec : {M : Type 1} → statement M
+check-list-spec =
+    tie.close (tie.spec base-requires check-list-requires number-requires returns)

@@ -1,0 +1,22 @@
+-- `face_checks::check_set` meets its contract. Assumes nothing.
+use mathlib.Core.Path.{ap, _∙_}
+use Rattle.face_checks.specs.Verdicts.{numberOf}
+use borrow.Author.Needs.{needs}
+use Rattle.face_checks.proofs.check_set.Statement.{statement}
+use Rattle.face_checks.proofs.check_set.Tie as tie
+
+base-requires : tie.Need-base-requires
+base-requires c κs = search needs
+
+check-set-requires : tie.Need-check-set-requires
+check-set-requires c κs = search needs
+
+number-requires : tie.Need-number-requires
+number-requires c κs = search needs
+
+returns : tie.Need-returns
+returns c = c .number .ensures ∙ ap numberOf (rw (c .before .before .base .ensures) at (c .before .check-set .ensures))
+
+pub check-set-spec : {M : Type 1} → statement M
+check-set-spec =
+    tie.close (tie.spec base-requires check-set-requires number-requires returns)

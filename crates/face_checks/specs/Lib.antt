@@ -1,0 +1,2 @@
+-- The number of a verdict.
+pub mod Verdicts

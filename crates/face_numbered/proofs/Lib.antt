@@ -1,0 +1,2 @@
+-- The numbers of the answers.
+pub mod Numbers

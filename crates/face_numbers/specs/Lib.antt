@@ -1,0 +1,2 @@
+-- What the entries on numbers answer.
+pub mod Stop

@@ -1,0 +1,1 @@
+// Numbers at the boundary, as definitions: no code.

@@ -1,0 +1,27 @@
+-- `face_words::encode_cubes` meets its contract. Assumes nothing.
+use mathlib.Core.Path.{ap, _∙_}
+use borrow.Author.Needs.{needs}
+use Rattle.machine_settings.specs.Machine.{base}
+use Rattle.encoder_cubes.proofs.Cubes.{cubes-means}
+use Rattle.face_answers.specs.Answers.{cubesAnswerOf}
+use Rattle.face_words.proofs.encode_cubes.Statement.{statement}
+use Rattle.face_words.proofs.encode_cubes.Tie as tie
+
+encode-cubes-requires : tie.Need-encode-cubes-requires
+encode-cubes-requires c κs = search needs
+
+cubes-answer-of-requires : tie.Need-cubes-answer-of-requires
+cubes-answer-of-requires c κs = search needs
+
+same-length : tie.Need-same-length
+same-length c = search needs
+
+returns : tie.Need-returns
+returns c =
+    let a = c .before .before .before .before .before .before .before .before .before .args in
+    let e = c .before .before .before .encode-cubes in
+    (c .cubes-answer-of .ensures ∙ ap cubesAnswerOf (e .ensures .0), (e .ensures .1 .0, cubes-means (base (a .cells) (a .taps)) (a .masks .now) (a .specified .now) (a .bits .now) (a .out .now) (a .depth)))
+
+pub encode-cubes-spec : {M : Type 1} → statement M
+encode-cubes-spec =
+    tie.close (tie.spec encode-cubes-requires cubes-answer-of-requires same-length returns)

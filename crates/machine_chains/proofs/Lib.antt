@@ -1,0 +1,3 @@
+-- The laws of the chains.
+pub mod Causes
+pub mod Slices

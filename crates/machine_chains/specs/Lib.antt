@@ -1,0 +1,2 @@
+-- The chains.
+pub mod Chains

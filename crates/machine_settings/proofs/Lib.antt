@@ -1,0 +1,2 @@
+-- The laws of the machine.
+pub mod Machine

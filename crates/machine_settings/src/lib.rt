@@ -1,0 +1,22 @@
+// The settings of a call (document 01, "Register and chains", and "Covering and cutting" on the longest window).
+use machine_register::Register;
+ghost use mathlib.Core.Path.{_≡_};
+ghost use Rattle.machine_settings.specs.Machine.{base as baseOf};
+
+// The settings of a call, as they are handed in and not yet judged: cells and taps of its register, and the most slices of a window.
+pub struct Settings {
+    pub cells: usize,
+    pub taps: u64,
+    pub limit: usize,
+}
+
+// The settings of the base: windows of up to 256 slices.
+pub fn base(cells: usize, taps: u64) -> Settings
+    ensures { λ r. ⌜ r ≡ baseOf cells taps ⌝ }
+{
+    Settings {
+        cells,
+        taps,
+        limit: Register::LONGEST_WINDOW,
+    }
+}

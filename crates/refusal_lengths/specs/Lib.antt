@@ -1,0 +1,2 @@
+-- Lengths.
+pub mod Lengths

@@ -1,0 +1,2 @@
+-- The laws of the order of causes.
+pub mod Order

@@ -1,0 +1,2 @@
+-- The order of causes.
+pub mod Order

@@ -1,0 +1,3 @@
+-- The laws of branches.
+
+pub mod Branching

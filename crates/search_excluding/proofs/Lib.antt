@@ -1,0 +1,3 @@
+-- The laws of dead lanes.
+
+pub mod Excluding

@@ -1,0 +1,3 @@
+-- What the words of a leaf rule out.
+
+pub mod Excluding

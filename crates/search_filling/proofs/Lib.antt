@@ -1,0 +1,3 @@
+-- The laws of the words of a leaf.
+
+pub mod Words

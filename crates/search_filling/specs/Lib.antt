@@ -1,0 +1,3 @@
+-- What the words of a leaf tell.
+
+pub mod Columns

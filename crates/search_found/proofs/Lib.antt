@@ -1,0 +1,4 @@
+-- The laws of what a search finds, and of the clear members of a space.
+
+pub mod Finding
+pub mod Passing

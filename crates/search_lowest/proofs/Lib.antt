@@ -1,0 +1,3 @@
+-- The laws of rising blocks.
+
+pub mod Rising

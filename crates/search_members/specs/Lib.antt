@@ -1,0 +1,2 @@
+-- The members of a space by number.
+pub mod Members

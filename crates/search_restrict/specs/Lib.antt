@@ -1,0 +1,2 @@
+-- A space under an equation.
+pub mod Restricted

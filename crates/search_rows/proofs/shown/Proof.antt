@@ -1,0 +1,81 @@
+-- `search_rows::shown` meets its contract. Assumes nothing.
+use mathlib.Core.Path.{_≡_, refl, sym, _∙_}
+use Prim.Native.Nat.{_-_, _≤_}
+use native.Mathlib.Omega.{arith}
+use lib.ListN.{drop}
+use borrow.Author.Needs.{needs}
+use Rattle.search_rows.specs.Clauses.{reads as readsOf, shown, row as rowOf}
+use Rattle.search_rows.proofs.Reading.{reads-next, reads-differs, reads-end}
+use Rattle.search_rows.proofs.shown.Statement.{statement}
+use Rattle.search_rows.proofs.shown.Tie as tie
+
+abbrev Inv-loop : tie.InvT-loop
+Inv-loop table row state columns first bits₀ column₀ bits column = (column ≤ columns) × (readsOf (rowOf columns table row) bits₀ state ≡ readsOf (drop column (rowOf columns table row)) bits state)
+
+abbrev μ-loop : tie.MeasureT-loop
+μ-loop table row state columns first bits₀ column₀ bits column = columns - column
+
+mul-first : tie.Need-mul-first Inv-loop μ-loop
+mul-first c = search needs
+
+loop-holds : tie.Need-loop-holds Inv-loop μ-loop
+loop-holds c = (omega arith, refl)
+
+add-odd : tie.Need-add-odd Inv-loop μ-loop
+add-odd c = search needs
+
+mul-odd : tie.Need-mul-odd Inv-loop μ-loop
+mul-odd c = search needs
+
+shared-slice-read-odd : tie.Need-shared-slice-read-odd Inv-loop μ-loop
+shared-slice-read-odd c = search needs
+
+odd-requires : tie.Need-odd-requires Inv-loop μ-loop
+odd-requires c κs = search needs
+
+returns : tie.Need-returns Inv-loop μ-loop
+unfolding shown
+returns c =
+    let s = c .before .before .before .before .before .before in
+    let a = s .args in
+    let l = c .before .before .before .before .loop in
+    reads-differs (a .pattern .columns) (a .table .now) (a .row) (s .pre) (a .state) (l .column) (l .bits) (omega arith) (λ e. c .if1 .taken (c .before .odd .ensures ∙ e)) ∙ sym (l .inv .1)
+
+add-column : tie.Need-add-column Inv-loop μ-loop
+add-column c = search needs
+
+loop-less : tie.Need-loop-less Inv-loop μ-loop
+loop-less c = search needs
+
+loop-again : tie.Need-loop-again Inv-loop μ-loop
+loop-again c =
+    let s = c .before .before .before .before .before .before in
+    let a = s .args in
+    let l = c .before .before .before .before .loop in
+    (omega arith, l .inv .1 ∙ reads-next (a .pattern .columns) (a .table .now) (a .row) (s .pre) (a .state) (l .column) (l .bits) (omega arith) (sym (c .before .odd .ensures) ∙ c .if1 .left))
+
+returns-2 : tie.Need-returns-2 Inv-loop μ-loop
+unfolding shown
+returns-2 c =
+    let s = c .before .before .before in
+    let a = s .args in
+    let l = c .before .loop in
+    reads-end (a .pattern .columns) (a .table .now) (a .row) (s .pre) (a .state) (l .column) (l .bits) (omega arith) ∙ sym (l .inv .1)
+
+pub shown-spec : {M : Type 1} → statement M
+shown-spec =
+    tie.close
+    (tie.spec
+    Inv-loop
+    μ-loop
+    mul-first
+    loop-holds
+    add-odd
+    mul-odd
+    shared-slice-read-odd
+    odd-requires
+    returns
+    add-column
+    loop-less
+    loop-again
+    returns-2)

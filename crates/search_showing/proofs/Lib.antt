@@ -1,0 +1,4 @@
+-- The laws of showing a row.
+
+pub mod Columns
+pub mod Saying

@@ -1,0 +1,3 @@
+-- How the members of a space show a row.
+
+pub mod Showing

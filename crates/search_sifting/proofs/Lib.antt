@@ -1,0 +1,3 @@
+-- The laws of the first clear member of a leaf.
+
+pub mod Sifting

@@ -1,0 +1,3 @@
+-- The first clear member of a group.
+
+pub mod Clear

@@ -1,2 +1,0 @@
--- What the entries for C and Rust hand over and answer.
-pub mod Face

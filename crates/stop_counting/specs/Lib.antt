@@ -1,0 +1,2 @@
+-- A position that is unset.
+pub mod Unset

@@ -1,0 +1,2 @@
+-- Slices in lines.
+pub mod Characters

@@ -1,0 +1,2 @@
+-- The text call that encodes.
+pub mod EncodeText

@@ -1,0 +1,19 @@
+-- The numbers of refused encodings: whatever holds of the numbers of the causes holds of them.
+--     list-refused     the reply to an encoding
+-- Assumes nothing.
+use mathlib.Core.Path.{_≡_, refl}
+use mathlib.Core.List.{List}
+use Prim.Native.Nat.{ℕ}
+use Rattle.refusal_causes.specs.declared.Cause.{Cause}
+use Rattle.refusal_causes.specs.Sheet.{refusalOf}
+use Rattle.machine_settings.specs.declared.Settings.{Settings}
+use Rattle.encoder_cubes.specs.declared.Encoded.{Encoded}
+use Rattle.encoder_cubes.specs.declared.Encoded.the-variants as encoding
+use Rattle.text_replies.specs.Replies.{RefusedBy}
+use Rattle.text_encode_said.specs.Encoded.{listReply}
+
+module _ (P : ℕ → Type 0) where
+  pub list-refused : (g : Settings) (masks : List ℕ) (slices : ℕ) (buffer : List ℕ) (a : Encoded) → ((c : Cause) → a ≡ encoding.Refused c → P (refusalOf c .number)) → RefusedBy P (listReply g masks slices buffer a)
+  unfolding listReply
+  list-refused g masks slices buffer (encoding.Seeds stop n) f = tt
+  list-refused g masks slices buffer (encoding.Refused c) f = f c refl

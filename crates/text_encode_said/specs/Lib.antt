@@ -1,0 +1,2 @@
+-- The reply to what a sheet says.
+pub mod Encoded

@@ -1,0 +1,16 @@
+-- The lists that a reading fills.
+--     storedIf c l i v    the list l with v at i, where c holds
+--     keptAll f l es      the list l with the number f of each entry at the rank of its key
+use mathlib.Core.Bool.{Bool, true, false}
+use mathlib.Core.List.{List, [], _∷_}
+use Prim.Native.Nat.{ℕ}
+use lib.ListN.{set}
+use Rattle.text_keys.specs.Keys.{rank}
+use Rattle.text_entries.specs.declared.Entry.{Entry}
+
+unfoldable pub storedIf : Bool → List ℕ → ℕ → ℕ → List ℕ
+storedIf c l i v = elim c [ true ↦ set l i v | false ↦ l ]
+
+unfoldable pub keptAll : (Entry → ℕ) → List ℕ → List Entry → List ℕ
+keptAll f l [] = l
+keptAll f l (e ∷ es) = keptAll f (set l (rank (e .key)) (f e)) es

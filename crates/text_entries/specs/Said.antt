@@ -1,0 +1,52 @@
+-- What the lines of a text say, by their keys (document 01, "Sheet and seed list").
+--     entry k a b         the entry of a line with the key k and the numbers a and b
+--     keyIs k e           the entry e has the key k
+--     rowIs e             the entry e is of a row
+--     picked p f es       the numbers f of the entries of es that p picks, in order
+--     masksOf es          the masks that the chain lines say
+--     rowsOf es           the seeds that the seed lines say, or the specified positions that the slice lines say
+--     rowBitsOf es        the bits that the slice lines say
+--     lastOr x l          the last of the list l, or x where it is empty
+--     numberFor k es      the number for a key that has one line
+--     sliceFor k es       the slice for such a key
+use mathlib.Core.Bool.{Bool, true, false}
+use mathlib.Core.List.{List, [], _∷_}
+use Prim.Native.Nat.{ℕ}
+use Rattle.machine_slices.specs.declared.TestSlice.{TestSlice}
+use Rattle.text_keys.specs.Keys.{same}
+use Rattle.text_keys.specs.declared.Key.{Key}
+use Rattle.text_keys.specs.declared.Key.the-variants as key
+use Rattle.text_place.specs.Places.{isRow}
+use Rattle.text_entries.specs.declared.Entry.{Entry}
+
+abbrev pub entry : Key → ℕ → ℕ → Entry
+entry k a b = record { key = k; first = a; second = b }
+
+abbrev pub keyIs : Key → Entry → Bool
+keyIs k e = same (e .key) k
+
+abbrev pub rowIs : Entry → Bool
+rowIs e = isRow (e .key)
+
+unfoldable pub picked : (Entry → Bool) → (Entry → ℕ) → List Entry → List ℕ
+picked p f [] = []
+picked p f (e ∷ es) = elim (p e) [ true ↦ f e ∷ picked p f es | false ↦ picked p f es ]
+
+abbrev pub masksOf : List Entry → List ℕ
+masksOf es = picked (keyIs key.Chain) (λ e. e .first) es
+
+abbrev pub rowsOf : List Entry → List ℕ
+rowsOf es = picked rowIs (λ e. e .first) es
+
+abbrev pub rowBitsOf : List Entry → List ℕ
+rowBitsOf es = picked rowIs (λ e. e .second) es
+
+unfoldable pub lastOr : ℕ → List ℕ → ℕ
+lastOr x [] = x
+lastOr x (y ∷ ys) = lastOr y ys
+
+abbrev pub numberFor : Key → List Entry → ℕ
+numberFor k es = lastOr 0 (picked (keyIs k) (λ e. e .first) es)
+
+abbrev pub sliceFor : Key → List Entry → TestSlice
+sliceFor k es = record { specified = numberFor k es; bits = lastOr 0 (picked (keyIs k) (λ e. e .second) es) }

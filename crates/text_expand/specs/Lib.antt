@@ -1,0 +1,2 @@
+-- The text call that expands.
+pub mod ExpandText

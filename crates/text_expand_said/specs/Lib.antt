@@ -1,0 +1,2 @@
+-- The reply to what a seed list says.
+pub mod Expanded

@@ -1,0 +1,2 @@
+-- The laws of names, and the proofs of the functions.
+pub mod Begins

@@ -1,0 +1,2 @@
+-- The key with which a line begins.
+pub mod Begins

@@ -1,0 +1,2 @@
+-- The laws of numbers in lines, and the proofs of the functions.
+pub mod Numerals

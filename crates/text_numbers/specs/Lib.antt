@@ -1,0 +1,2 @@
+-- Numbers in lines.
+pub mod Numbers

@@ -1,0 +1,2 @@
+-- The order of the lines of a text.
+pub mod Order

@@ -1,0 +1,2 @@
+-- How far a text is read.
+pub mod Places

@@ -1,0 +1,18 @@
+-- How far a text is read (document 01, "Sheet and seed list").
+--     start                 the place before the first line
+--     isRow k               a line with the key k is a row: a slice line or a seed line
+--     mayEnd p              the text may end at the place p
+use mathlib.Core.Bool.{Bool, _||_}
+use Rattle.text_keys.specs.Keys.{same}
+use Rattle.text_keys.specs.declared.Key.{Key}
+use Rattle.text_keys.specs.declared.Key.the-variants as key
+use Rattle.text_place.specs.declared.Place.{Place}
+
+abbrev pub start : Place
+start = record { due = key.Cells; cells = 0; chains = 0; masks = 0; rows = 0 }
+
+unfoldable pub isRow : Key → Bool
+isRow k = same k key.Slice || same k key.Seed
+
+unfoldable pub mayEnd : Place → Bool
+mayEnd p = isRow (p .due)

@@ -1,0 +1,2 @@
+-- The laws of what a line says at a place, and the proofs of the functions.
+pub mod Ranging

@@ -1,0 +1,37 @@
+-- `text_ranges::tested` meets its contract. Assumes nothing.
+use borrow.Author.Needs.{needs}
+use Rattle.text_ranges.proofs.tested.Statement.{statement}
+use Rattle.text_ranges.proofs.tested.Tie as tie
+use mathlib.Core.Path.{sym, ap, _∙_}
+use borrow.Author.Tests.{not-true, not-false}
+use Rattle.text_lines.specs.declared.Line.the-variants.{Refused}
+use Rattle.text_ranges.proofs.Ranging.{tested-other, tested-beyond, tested-right}
+
+same-requires : tie.Need-same-requires
+same-requires c κs = search needs
+
+returns : tie.Need-returns
+returns c = sym (tested-other _ _ _ _ (sym (c .before .same .ensures) ∙ not-true _ (c .if1 .taken)))
+
+out-of-range-requires : tie.Need-out-of-range-requires
+out-of-range-requires c κs = search needs
+
+range-cause-requires : tie.Need-range-cause-requires
+range-cause-requires c κs = search needs
+
+returns-2 : tie.Need-returns-2
+returns-2 c =
+    let o = c .before .before in
+    let e = o .before in
+    ap Refused (c .range-cause .ensures) ∙ sym (tested-beyond _ _ _ _ (sym (e .before .same .ensures) ∙ not-false _ (e .if1 .left)) (sym (o .out-of-range .ensures) ∙ c .before .if2 .taken))
+
+returns-3 : tie.Need-returns-3
+returns-3 c =
+    let o = c .before in
+    let e = o .before in
+    sym (tested-right _ _ _ _ (sym (e .before .same .ensures) ∙ not-false _ (e .if1 .left)) (sym (o .out-of-range .ensures) ∙ c .if2 .left))
+
+pub tested-spec : {M : Type 1} → statement M
+tested-spec =
+    tie.close
+    (tie.spec same-requires returns out-of-range-requires range-cause-requires returns-2 returns-3)

@@ -1,0 +1,2 @@
+-- Texts by their lines.
+pub mod Text

@@ -1,0 +1,24 @@
+-- `text_taken::end_of` meets its contract. Assumes nothing.
+use borrow.Author.Needs.{needs}
+use Rattle.text_taken.proofs.end_of.Statement.{statement}
+use Rattle.text_taken.proofs.end_of.Tie as tie
+use mathlib.Core.Path.{sym, ap, _∙_}
+use Rattle.text_taken.specs.declared.Scanned.the-variants.{Refused}
+use Rattle.text_taken.proofs.Ending.{end-whole, end-early}
+
+is-row-requires : tie.Need-is-row-requires
+is-row-requires c κs = search needs
+
+refused-at-requires : tie.Need-refused-at-requires
+refused-at-requires c κs = search needs
+
+returns : tie.Need-returns
+returns c = sym (end-whole _ _ (sym (c .before .is-row .ensures) ∙ c .if1 .taken))
+
+returns-2 : tie.Need-returns-2
+returns-2 c =
+    let e = c .before in
+    ap Refused (c .refused-at .ensures) ∙ sym (end-early _ _ (sym (e .before .is-row .ensures) ∙ e .if1 .left))
+
+pub end-of-spec : {M : Type 1} → statement M
+end-of-spec = tie.close (tie.spec is-row-requires refused-at-requires returns returns-2)

@@ -1,0 +1,2 @@
+-- Texts in a lent buffer.
+pub mod Stored

@@ -1,0 +1,2 @@
+-- The laws of written slices, and the proofs of the functions.
+pub mod Characters

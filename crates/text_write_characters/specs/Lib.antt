@@ -1,0 +1,2 @@
+-- Slices that are written, and their lines.
+pub mod Characters

@@ -1,0 +1,2 @@
+-- The length of a seed list, and the proofs of the functions.
+pub mod Lengths

@@ -1,0 +1,53 @@
+-- `text_write_list::put_list` meets its contract. The head and the lines after it are stored one after the other.
+-- Assumes nothing.
+use native.Mathlib.Omega.{arith}
+use Rattle.text_keys.specs.Keys.{name}
+use Rattle.machine_settings.specs.Machine.{base}
+use Rattle.text_write_list.specs.SeedList.{listText}
+use Rattle.text_write_bytes.proofs.Storing.{join}
+use Rattle.text_write_list.proofs.Lengths.{list-parts}
+use borrow.Author.Needs.{needs}
+use Rattle.text_write_list.proofs.put_list.Statement.{statement}
+use Rattle.text_write_list.proofs.put_list.Tie as tie
+
+put-head-requires : tie.Need-put-head-requires
+put-head-requires c κs = let a = c .before .before .before .before .args in omega (arith, list-parts (base (a .cells) (a .taps)) (a .masks .now) (a .stop) (a .slices) (a .seeds .now))
+
+slice-aggregate-put-slice-line : tie.Need-slice-aggregate-put-slice-line
+slice-aggregate-put-slice-line c = search needs
+
+put-slice-line-requires : tie.Need-put-slice-line-requires
+put-slice-line-requires c κs = let a = c .before .before .before .before .before .before .before .before .before .args in omega (arith, list-parts (base (a .cells) (a .taps)) (a .masks .now) (a .stop) (a .slices) (a .seeds .now))
+
+slice-aggregate-put-number-line : tie.Need-slice-aggregate-put-number-line
+slice-aggregate-put-number-line c = search needs
+
+put-number-line-requires : tie.Need-put-number-line-requires
+put-number-line-requires c κs = let a = c .before .before .before .before .before .before .before .before .before .before .before .before .before .before .args in (omega arith, omega arith, omega (arith, list-parts (base (a .cells) (a .taps)) (a .masks .now) (a .stop) (a .slices) (a .seeds .now)))
+
+slice-aggregate-put-number-lines : tie.Need-slice-aggregate-put-number-lines
+slice-aggregate-put-number-lines c = search needs
+
+put-number-lines-requires : tie.Need-put-number-lines-requires
+put-number-lines-requires c κs = let a = c .before .before .before .before .before .before .before .before .before .before .before .before .before .before .before .before .before .before .before .args in (omega arith, omega arith, omega (arith, list-parts (base (a .cells) (a .taps)) (a .masks .now) (a .stop) (a .slices) (a .seeds .now)))
+
+same-length : tie.Need-same-length
+same-length c = search needs
+
+returns : tie.Need-returns
+unfolding listText name
+returns c = join (c .before .before .before .before .before .before .before .before .before .before .before .before .before .before .before .before .before .put-head .ensures) (join (c .before .before .before .before .before .before .before .before .before .before .before .before .put-slice-line .ensures) (join (c .before .before .before .before .before .before .before .put-number-line .ensures) (c .before .before .put-number-lines .ensures)))
+
+pub put-list-spec : {M : Type 1} → statement M
+put-list-spec =
+    tie.close
+    (tie.spec
+    put-head-requires
+    slice-aggregate-put-slice-line
+    put-slice-line-requires
+    slice-aggregate-put-number-line
+    put-number-line-requires
+    slice-aggregate-put-number-lines
+    put-number-lines-requires
+    same-length
+    returns)

@@ -1,0 +1,41 @@
+-- `text_write_list::write_list` meets its contract. What was counted first is stored where there is space for it.
+-- Assumes nothing.
+use native.Mathlib.Omega.{arith}
+use Rattle.machine_settings.specs.Machine.{base}
+use Rattle.text_write_bytes.proofs.Storing.{filled, filled-short}
+use Rattle.text_write_list.proofs.Lengths.{list-bound}
+use borrow.Author.Needs.{needs}
+use Rattle.text_write_list.proofs.write_list.Statement.{statement}
+use Rattle.text_write_list.proofs.write_list.Tie as tie
+
+slice-aggregate-put-list : tie.Need-slice-aggregate-put-list
+slice-aggregate-put-list c = search needs
+
+put-list-requires : tie.Need-put-list-requires
+put-list-requires c κs =
+    let s = c .before .before .before .before in
+    let a = s .args in
+    omega (arith, s .pre, list-bound (base (a .cells) (a .taps)) (a .masks .now) (a .stop) (a .slices) (a .seeds .now))
+
+returns : tie.Need-returns
+returns c = filled-short (c .before .before .put-list .ensures) _ (c .if1 .taken)
+
+put-list-requires-2 : tie.Need-put-list-requires-2
+put-list-requires-2 c κs = search needs
+
+same-length : tie.Need-same-length
+same-length c = search needs
+
+returns-2 : tie.Need-returns-2
+returns-2 c = filled (c .before .before .before .before .before .before .put-list .ensures) _ (c .before .before .before .before .if1 .left) (c .before .before .put-list2 .ensures)
+
+pub write-list-spec : {M : Type 1} → statement M
+write-list-spec =
+    tie.close
+    (tie.spec
+    slice-aggregate-put-list
+    put-list-requires
+    returns
+    put-list-requires-2
+    same-length
+    returns-2)

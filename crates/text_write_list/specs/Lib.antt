@@ -1,0 +1,2 @@
+-- Seed lists that are written.
+pub mod SeedList

@@ -1,0 +1,2 @@
+-- Refusals that are written.
+pub mod Refused

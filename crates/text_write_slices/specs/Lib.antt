@@ -1,0 +1,2 @@
+-- The slices that expanding gives, as they are written.
+pub mod Slices

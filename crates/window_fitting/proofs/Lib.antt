@@ -1,0 +1,3 @@
+-- The laws of the closing stop.
+
+pub mod Closing

@@ -1,0 +1,3 @@
+-- The closing stop.
+
+pub mod Closing

@@ -1,0 +1,3 @@
+-- The laws of forced positions.
+
+pub mod Keeping

@@ -1,0 +1,3 @@
+-- What forced positions leave.
+
+pub mod Keeping

@@ -1,0 +1,3 @@
+-- The laws of the spaces of the first slices.
+
+pub mod Growing

@@ -1,0 +1,3 @@
+-- The spaces of the first slices.
+
+pub mod Growing

@@ -1,0 +1,3 @@
+-- The laws of the lengths.
+
+pub mod Reaching

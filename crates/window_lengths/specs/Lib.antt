@@ -1,0 +1,3 @@
+-- The longest window from a start.
+
+pub mod Longest

@@ -1,0 +1,3 @@
+-- The laws of a part that is cut off.
+
+pub mod Parts

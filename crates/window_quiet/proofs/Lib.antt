@@ -1,0 +1,3 @@
+-- The laws of quiet states.
+
+pub mod Quiet

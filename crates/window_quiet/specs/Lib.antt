@@ -1,0 +1,3 @@
+-- The states that are quiet.
+
+pub mod Quiet

@@ -1,0 +1,3 @@
+-- The laws of the answer.
+
+pub mod Answering

@@ -1,0 +1,3 @@
+-- The laws of writing and reading a space.
+
+pub mod Storing

@@ -1,0 +1,3 @@
+-- A space that is written.
+
+pub mod Holding

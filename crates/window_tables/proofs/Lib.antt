@@ -1,0 +1,4 @@
+-- The laws of the tables.
+
+pub mod Clauses
+pub mod Tables

@@ -1,0 +1,3 @@
+-- The tables of a call.
+
+pub mod Ready

@@ -1,0 +1,35 @@
+-- The tables of a call: what the search for a seed relies on besides the register, the chains and the stop slice.
+--     patternOf stop masks     the stop slice without its unspecified positions
+--     Tabled taps n masks table     the table's first n rows are the masks pulled back, row t through t steps
+--     Ready g masks st p all stops n     register, chains and the stop slice st are well-formed; p is its pattern; the table of all chains and that of the stop's chains have n rows
+use mathlib.Core.Path.{_≡_}
+use mathlib.Core.Bool.{false}
+use mathlib.Core.List.{List, map}
+use Prim.Native.Nat.{ℕ, _*_, _≤_, _<_}
+use lib.ListN.{length}
+use Rattle.machine_settings.specs.declared.Settings.{Settings}
+use Rattle.machine_register.specs.Register.{badRegister, pulls}
+use Rattle.machine_chains.specs.Chains.{badChains}
+use Rattle.machine_slices.specs.declared.TestSlice.{TestSlice}
+use Rattle.machine_slices.specs.Slices.{badStop}
+use Rattle.search_rows.specs.declared.Pattern.{Pattern}
+use Rattle.search_rows.specs.Clauses.{row}
+use Rattle.search_table.specs.Chosen.{chosen, packed}
+
+abbrev pub patternOf : TestSlice → List ℕ → Pattern
+patternOf stop masks = record {
+  columns = length (chosen (stop .specified) masks);
+  bits = packed (stop .specified) (stop .bits) (length masks);
+}
+
+pub record Tabled (taps n : ℕ) (masks table : List ℕ) : Type 0 where
+  pub long : n * length masks ≤ length table
+  pub rows : (t : ℕ) → t < n → row (length masks) table t ≡ map (pulls taps t) masks
+
+pub record Ready (g : Settings) (masks : List ℕ) (st : TestSlice) (p : Pattern) (all stops : List ℕ) (n : ℕ) : Type 0 where
+  pub register : badRegister (g .cells) (g .taps) ≡ false
+  pub chains : badChains (g .cells) masks ≡ false
+  pub stop : badStop (length masks) st ≡ false
+  pub pattern : p ≡ patternOf st masks
+  pub table : Tabled (g .taps) n masks all
+  pub clauses : Tabled (g .taps) n (chosen (st .specified) masks) stops
