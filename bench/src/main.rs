@@ -3,6 +3,7 @@
 // `bench part NAME SECONDS` prints one section (sets, windows or degenerate) and writes nothing.
 // FIRST_VERSION may name the benchmark program of an earlier commit, built with SEEDS_LIBRARY: the folder of the static library that rust/build.rs links.
 // `bench quick` runs a few small rows, writes nothing and ends with `N passed, M failed`.
+// It is built with the workspace's profile `measured`; a build that checks for overflow measures nothing.
 
 mod answer;
 mod bars;
@@ -21,7 +22,7 @@ mod plots;
 mod published;
 mod quick;
 #[allow(dead_code)]
-#[path = "../../compare/src/random.rs"]
+#[path = "../../checks/compare/src/random.rs"]
 mod random;
 mod report;
 mod row;
@@ -36,11 +37,22 @@ mod whole;
 mod windows;
 mod windows_section;
 
+use std::hint::black_box;
+use std::panic::catch_unwind;
 use std::process::ExitCode;
+
+/// Whether this build checks for overflow, as the workspace's profile `release` does: its times would be other ones.
+fn checks_overflow() -> bool {
+    catch_unwind(|| black_box(u8::MAX) + black_box(1)).is_err()
+}
 
 /// The whole run into a folder, or one section; a wrong limit or an error ends it.
 fn measured(limit: &str, run: impl Fn(f64) -> Result<(), String>) -> ExitCode {
     let done = match limit.parse::<f64>() {
+        _ if checks_overflow() => Err(
+            "this build checks for overflow; cargo run --profile measured -p bench does not"
+                .to_string(),
+        ),
         Ok(limit) if limit >= 1.0 => run(limit),
         _ => Err(
             "bench [SECONDS] [FOLDER], at least 1 second; bench part NAME SECONDS; or bench quick"

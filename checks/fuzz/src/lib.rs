@@ -1,6 +1,6 @@
 // The fuzz target: libFuzzer hands in bytes, the proved library and the second program answer them, and both must agree.
 // The first byte says which entries are called: a sheet, a list, or numbers. The second says how much is lent.
-// `fuzz/run SECONDS` builds and runs it; docs/fuzzing.md has the figures.
+// `checks/fuzz/run SECONDS` builds and runs it; docs/fuzzing.md has the figures.
 
 mod lent;
 mod lines;

@@ -10,15 +10,12 @@ use crate::words;
 use std::path::Path;
 
 /// What a cited path begins with.
-const FOLDERS: [&str; 11] = [
+const FOLDERS: [&str; 8] = [
     "crates/",
-    "second/",
-    "compare/",
-    "bench/",
-    "rust/",
     "c/",
-    "fuzz/",
-    "guide/",
+    "rust/",
+    "bench/",
+    "checks/",
     "examples/",
     "docs/",
     ".ci/",
