@@ -30,17 +30,18 @@ static void by_text(size_t length) {
 
 /* Encodes document 01's set by numbers: 10, x1, 1x, 1x; chain 1 is the lowest bit. */
 static void by_numbers(void) {
+    const seeds_settings settings = seeds_settings_of(3, 6);
     const uint64_t masks[] = {1, 4};
     const uint64_t specified[] = {3, 2, 1, 1}, bits[] = {1, 2, 1, 1};
     uint64_t seeds[4] = {0}, slices[4] = {0};
-    seeds_cubes_answer encoded = seeds_encode_cubes(3, 6, masks, 2, 2, specified, 4, bits, 4, seeds, 4);
+    seeds_cubes_answer encoded = seeds_encode_cubes(settings, masks, 2, 2, specified, 4, bits, 4, seeds, 4);
     if (refused(encoded.number, encoded.value))
         return;
     printf("stop %llu %llu, seeds", (unsigned long long)encoded.specified, (unsigned long long)encoded.bits);
     for (size_t place = 0; place < encoded.value; place++)
         printf(" %llu", (unsigned long long)seeds[place]);
     seeds_answer expanded =
-        seeds_expand(3, 6, masks, 2, encoded.specified, encoded.bits, 4, seeds, encoded.value, slices, 4);
+        seeds_expand(settings, masks, 2, encoded.specified, encoded.bits, 4, seeds, encoded.value, slices, 4);
     if (refused(expanded.number, expanded.value))
         return;
     printf("\n%zu slices", expanded.value);

@@ -17,6 +17,22 @@
 extern "C" {
 #endif
 
+/* The version of this header and of the Rust package; docs/library.md says what stays from one to the next. */
+#define SEEDS_VERSION "0.2.0"
+
+/* A register, by its number of cells and its taps, with the settings of a call. Make it by seeds_settings_of: a version with
+ * a setting more has a field more. */
+typedef struct {
+    size_t cells;
+    uint64_t taps;
+} seeds_settings;
+
+/* A register, with windows of up to 256 slices. */
+static inline seeds_settings seeds_settings_of(size_t cells, uint64_t taps) {
+    seeds_settings settings = {cells, taps};
+    return settings;
+}
+
 /* A stop slice: number 0 and the stop slice; or a refusal's number and value, with a stop slice of 0 and 0. */
 typedef struct {
     size_t number;
@@ -54,28 +70,28 @@ typedef struct {
 } seeds_text_answer;
 
 /* The register rule and the comparisons of slices. */
-uint64_t seeds_step(size_t cells, uint64_t taps, uint64_t state);
+uint64_t seeds_step(seeds_settings settings, uint64_t state);
 uint64_t seeds_slice(const uint64_t *masks, size_t masks_len, uint64_t state);
 bool seeds_agrees(uint64_t specified, uint64_t bits, uint64_t slice);
 bool seeds_shows(uint64_t stop_specified, uint64_t stop_bits, uint64_t slice);
 
 /* The number of the first of causes 1 to 5 that refuses a call, or 0. */
-size_t seeds_check_window(size_t cells, uint64_t taps, const uint64_t *masks, size_t masks_len,
+size_t seeds_check_window(seeds_settings settings, const uint64_t *masks, size_t masks_len,
                           uint64_t stop_specified, uint64_t stop_bits,
                           const uint64_t *specified, size_t specified_len,
                           const uint64_t *bits, size_t bits_len);
-size_t seeds_check_set(size_t cells, uint64_t taps, const uint64_t *masks, size_t masks_len,
+size_t seeds_check_set(seeds_settings settings, const uint64_t *masks, size_t masks_len,
                        uint64_t stop_specified, uint64_t stop_bits,
                        const uint64_t *specified, size_t specified_len,
                        const uint64_t *bits, size_t bits_len);
-size_t seeds_check_cubes(size_t cells, uint64_t taps, const uint64_t *masks, size_t masks_len,
+size_t seeds_check_cubes(seeds_settings settings, const uint64_t *masks, size_t masks_len,
                          size_t depth,
                          const uint64_t *specified, size_t specified_len,
                          const uint64_t *bits, size_t bits_len);
 size_t seeds_check_stop(size_t chains,
                         const uint64_t *specified, size_t specified_len,
                         const uint64_t *bits, size_t bits_len);
-size_t seeds_check_list(size_t cells, uint64_t taps, const uint64_t *masks, size_t masks_len,
+size_t seeds_check_list(seeds_settings settings, const uint64_t *masks, size_t masks_len,
                         uint64_t stop_specified, uint64_t stop_bits,
                         size_t slices, size_t seeds);
 
@@ -88,22 +104,22 @@ seeds_stop_answer seeds_stop(size_t chains,
                              const uint64_t *bits, size_t bits_len);
 
 /* The slices of a seed list. */
-seeds_answer seeds_expand(size_t cells, uint64_t taps, const uint64_t *masks, size_t masks_len,
+seeds_answer seeds_expand(seeds_settings settings, const uint64_t *masks, size_t masks_len,
                           uint64_t stop_specified, uint64_t stop_bits,
                           size_t slices, const uint64_t *seeds, size_t seeds_len,
                           uint64_t *out, size_t out_len);
 
 /* The lowest state that covers a window, and the fewest seeds of a set. */
-seeds_seed_answer seeds_window(size_t cells, uint64_t taps, const uint64_t *masks, size_t masks_len,
+seeds_seed_answer seeds_window(seeds_settings settings, const uint64_t *masks, size_t masks_len,
                                uint64_t stop_specified, uint64_t stop_bits,
                                const uint64_t *specified, size_t specified_len,
                                const uint64_t *bits, size_t bits_len);
-seeds_answer seeds_encode_set(size_t cells, uint64_t taps, const uint64_t *masks, size_t masks_len,
+seeds_answer seeds_encode_set(seeds_settings settings, const uint64_t *masks, size_t masks_len,
                               uint64_t stop_specified, uint64_t stop_bits,
                               const uint64_t *specified, size_t specified_len,
                               const uint64_t *bits, size_t bits_len,
                               uint64_t *out, size_t out_len);
-seeds_cubes_answer seeds_encode_cubes(size_t cells, uint64_t taps, const uint64_t *masks, size_t masks_len,
+seeds_cubes_answer seeds_encode_cubes(seeds_settings settings, const uint64_t *masks, size_t masks_len,
                                       size_t depth,
                                       const uint64_t *specified, size_t specified_len,
                                       const uint64_t *bits, size_t bits_len,

@@ -2,15 +2,11 @@
 
 use crate::answer::Answer;
 use crate::case::Case;
-use seeds::{Machine, Refusal, TestSlice, TestSlices};
+use seeds::{Machine, Refusal, Settings, TestSlice, TestSlices};
 
 /// The case's register and chains, its stop slice and its slices.
 fn parts(case: &Case) -> (Machine<'_>, TestSlice, TestSlices<'_>) {
-    let machine = Machine {
-        cells: case.cells,
-        taps: case.taps,
-        masks: &case.masks,
-    };
+    let machine = Machine::new(Settings::new(case.cells, case.taps), &case.masks);
     let stop = TestSlice {
         specified: case.stop.0,
         bits: case.stop.1,

@@ -1,7 +1,9 @@
 // Quotes a sheet: reads it from standard input, prints its number of seeds and its seed list, and expands the list again.
 // Then the same by numbers, for document 01's register R.
 
-use seeds::{encode_cubes, encode_sheet, expand, expand_list, Machine, Refusal, TestSlices};
+use seeds::{
+    encode_cubes, encode_sheet, expand, expand_list, Machine, Refusal, Settings, TestSlices,
+};
 use std::io::{self, Read, Write};
 
 /// How many lines of a text begin with a key.
@@ -33,11 +35,7 @@ fn by_text(sheet: &[u8]) -> io::Result<()> {
 
 /// Encodes document 01's set by numbers: 10, x1, 1x, 1x; chain 1 is the lowest bit.
 fn by_numbers() -> Result<(), Refusal> {
-    let machine = Machine {
-        cells: 3,
-        taps: 6,
-        masks: &[1, 4],
-    };
+    let machine = Machine::new(Settings::new(3, 6), &[1, 4]);
     let set = TestSlices {
         specified: &[0b11, 0b10, 0b01, 0b01],
         bits: &[0b01, 0b10, 0b01, 0b01],

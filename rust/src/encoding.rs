@@ -32,9 +32,9 @@ pub fn window_seed(machine: Machine, stop: TestSlice, window: TestSlices) -> Res
 ///
 /// The buffer is not one of the lists:
 /// ```compile_fail
-/// use seeds::{encode_set, Machine, TestSlice, TestSlices};
+/// use seeds::{encode_set, Machine, Settings, TestSlice, TestSlices};
 /// let mut words = [1u64, 4];
-/// let machine = Machine { cells: 3, taps: 6, masks: &words };
+/// let machine = Machine::new(Settings::new(3, 6), &words);
 /// let stop = TestSlice { specified: 1, bits: 0 };
 /// let set = TestSlices { specified: &[1], bits: &[1] };
 /// let _ = encode_set(machine, stop, set, &mut words);

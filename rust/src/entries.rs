@@ -2,11 +2,11 @@
 // a slice is never null, is aligned, has its length, and one that is lent to be written overlaps no other.
 
 use crate::raw::{self, Answer, CubesAnswer, SeedAnswer, StopAnswer, TextAnswer};
-use crate::{Machine, TestSlice, TestSlices};
+use crate::{Machine, Settings, TestSlice, TestSlices};
 
 /// One step of a register from a state. Of more than 64 cells the first 64 count.
-pub fn step(cells: usize, taps: u64, state: u64) -> u64 {
-    unsafe { raw::seeds_step(cells, taps, state) }
+pub fn step(settings: Settings, state: u64) -> u64 {
+    unsafe { raw::seeds_step(settings, state) }
 }
 
 /// The slice of a state. Of more than 64 masks the first 64 count.
@@ -42,8 +42,7 @@ pub fn count_in(stop: TestSlice, set: TestSlices) -> usize {
 pub fn check_window(machine: Machine, stop: TestSlice, window: TestSlices) -> usize {
     unsafe {
         raw::seeds_check_window(
-            machine.cells,
-            machine.taps,
+            machine.settings,
             machine.masks.as_ptr(),
             machine.masks.len(),
             stop.specified,
@@ -60,8 +59,7 @@ pub fn check_window(machine: Machine, stop: TestSlice, window: TestSlices) -> us
 pub fn check_set(machine: Machine, stop: TestSlice, set: TestSlices) -> usize {
     unsafe {
         raw::seeds_check_set(
-            machine.cells,
-            machine.taps,
+            machine.settings,
             machine.masks.as_ptr(),
             machine.masks.len(),
             stop.specified,
@@ -78,8 +76,7 @@ pub fn check_set(machine: Machine, stop: TestSlice, set: TestSlices) -> usize {
 pub fn check_cubes(machine: Machine, depth: usize, set: TestSlices) -> usize {
     unsafe {
         raw::seeds_check_cubes(
-            machine.cells,
-            machine.taps,
+            machine.settings,
             machine.masks.as_ptr(),
             machine.masks.len(),
             depth,
@@ -108,8 +105,7 @@ pub fn check_stop(chains: usize, set: TestSlices) -> usize {
 pub fn check_list(machine: Machine, stop: TestSlice, slices: usize, seeds: usize) -> usize {
     unsafe {
         raw::seeds_check_list(
-            machine.cells,
-            machine.taps,
+            machine.settings,
             machine.masks.as_ptr(),
             machine.masks.len(),
             stop.specified,
@@ -137,8 +133,7 @@ pub fn stop(chains: usize, set: TestSlices) -> StopAnswer {
 pub fn window(machine: Machine, stop: TestSlice, window: TestSlices) -> SeedAnswer {
     unsafe {
         raw::seeds_window(
-            machine.cells,
-            machine.taps,
+            machine.settings,
             machine.masks.as_ptr(),
             machine.masks.len(),
             stop.specified,
@@ -155,8 +150,7 @@ pub fn window(machine: Machine, stop: TestSlice, window: TestSlices) -> SeedAnsw
 pub fn encode_set(machine: Machine, stop: TestSlice, set: TestSlices, out: &mut [u64]) -> Answer {
     unsafe {
         raw::seeds_encode_set(
-            machine.cells,
-            machine.taps,
+            machine.settings,
             machine.masks.as_ptr(),
             machine.masks.len(),
             stop.specified,
@@ -180,8 +174,7 @@ pub fn encode_cubes(
 ) -> CubesAnswer {
     unsafe {
         raw::seeds_encode_cubes(
-            machine.cells,
-            machine.taps,
+            machine.settings,
             machine.masks.as_ptr(),
             machine.masks.len(),
             depth,
@@ -205,8 +198,7 @@ pub fn expand(
 ) -> Answer {
     unsafe {
         raw::seeds_expand(
-            machine.cells,
-            machine.taps,
+            machine.settings,
             machine.masks.as_ptr(),
             machine.masks.len(),
             stop.specified,

@@ -20,12 +20,15 @@ pub use encoding::{encode_cubes, encode_set, stop_slice, window_seed, Encoded};
 pub use entries::{agrees, count_in, shows, slice, step};
 pub use expanding::expand;
 
+pub use raw::Settings;
 pub use refusal::Refusal;
 pub use texts::{encode_sheet, encode_text, expand_list, expand_text, Written, LONGEST_OUTPUT};
 
 #[cfg(not(all(target_arch = "x86_64", target_os = "linux")))]
 compile_error!("the static library is for x86-64 Linux");
 
+/// The version of the package and of the header; docs/library.md says what stays from one to the next.
+pub const VERSION: &str = env!("CARGO_PKG_VERSION");
 /// Most cells of a register.
 pub const MOST_CELLS: usize = 64;
 /// Most chains.
@@ -49,10 +52,17 @@ pub struct TestSlices<'a> {
     pub bits: &'a [u64],
 }
 
-/// A register, by its number of cells and its taps, and the masks of its chains. Cell i has weight 2^i.
+/// A register with its settings, and the masks of its chains. It is made by [`Machine::new`].
 #[derive(Clone, Copy, Debug)]
+#[non_exhaustive]
 pub struct Machine<'a> {
-    pub cells: usize,
-    pub taps: u64,
+    pub settings: Settings,
     pub masks: &'a [u64],
+}
+
+impl<'a> Machine<'a> {
+    /// A register with its settings, and the masks of its chains.
+    pub const fn new(settings: Settings, masks: &'a [u64]) -> Machine<'a> {
+        Machine { settings, masks }
+    }
 }

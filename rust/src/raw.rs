@@ -5,6 +5,22 @@
 // length says, and a buffer that is written must not overlap anything else that is handed in. Nothing checks this:
 // the functions of this package hand in Rust's slices, which are so.
 
+/// A register, by its number of cells and its taps, with the settings of a call. Cell i has weight 2^i. It is made by [`Settings::new`]: a version with a setting more has a field more.
+#[repr(C)]
+#[derive(Clone, Copy, Debug, PartialEq, Eq)]
+#[non_exhaustive]
+pub struct Settings {
+    pub cells: usize,
+    pub taps: u64,
+}
+
+impl Settings {
+    /// A register, with windows of up to 256 slices.
+    pub const fn new(cells: usize, taps: u64) -> Settings {
+        Settings { cells, taps }
+    }
+}
+
 /// Number 0 with the stop slice; or a refusal's number and value, with a stop slice of 0 and 0.
 #[repr(C)]
 #[derive(Clone, Copy, Debug, PartialEq, Eq)]
@@ -52,13 +68,12 @@ pub struct TextAnswer {
 }
 
 extern "C" {
-    pub fn seeds_step(cells: usize, taps: u64, state: u64) -> u64;
+    pub fn seeds_step(settings: Settings, state: u64) -> u64;
     pub fn seeds_slice(masks: *const u64, masks_len: usize, state: u64) -> u64;
     pub fn seeds_agrees(specified: u64, bits: u64, slice: u64) -> bool;
     pub fn seeds_shows(stop_specified: u64, stop_bits: u64, slice: u64) -> bool;
     pub fn seeds_check_window(
-        cells: usize,
-        taps: u64,
+        settings: Settings,
         masks: *const u64,
         masks_len: usize,
         stop_specified: u64,
@@ -69,8 +84,7 @@ extern "C" {
         bits_len: usize,
     ) -> usize;
     pub fn seeds_check_set(
-        cells: usize,
-        taps: u64,
+        settings: Settings,
         masks: *const u64,
         masks_len: usize,
         stop_specified: u64,
@@ -81,8 +95,7 @@ extern "C" {
         bits_len: usize,
     ) -> usize;
     pub fn seeds_check_cubes(
-        cells: usize,
-        taps: u64,
+        settings: Settings,
         masks: *const u64,
         masks_len: usize,
         depth: usize,
@@ -99,8 +112,7 @@ extern "C" {
         bits_len: usize,
     ) -> usize;
     pub fn seeds_check_list(
-        cells: usize,
-        taps: u64,
+        settings: Settings,
         masks: *const u64,
         masks_len: usize,
         stop_specified: u64,
@@ -124,8 +136,7 @@ extern "C" {
         bits_len: usize,
     ) -> StopAnswer;
     pub fn seeds_expand(
-        cells: usize,
-        taps: u64,
+        settings: Settings,
         masks: *const u64,
         masks_len: usize,
         stop_specified: u64,
@@ -137,8 +148,7 @@ extern "C" {
         out_len: usize,
     ) -> Answer;
     pub fn seeds_window(
-        cells: usize,
-        taps: u64,
+        settings: Settings,
         masks: *const u64,
         masks_len: usize,
         stop_specified: u64,
@@ -149,8 +159,7 @@ extern "C" {
         bits_len: usize,
     ) -> SeedAnswer;
     pub fn seeds_encode_set(
-        cells: usize,
-        taps: u64,
+        settings: Settings,
         masks: *const u64,
         masks_len: usize,
         stop_specified: u64,
@@ -163,8 +172,7 @@ extern "C" {
         out_len: usize,
     ) -> Answer;
     pub fn seeds_encode_cubes(
-        cells: usize,
-        taps: u64,
+        settings: Settings,
         masks: *const u64,
         masks_len: usize,
         depth: usize,

@@ -1,5 +1,5 @@
 // The declarations of src/raw.rs and of c/seeds.h against the library's own source: every function of crates/seeds/src/lib.rt and every
-// struct that it answers with, by name, parameters and types. A slice `x: &[T]` is there a pointer `x` and a number `x_len`.
+// struct that it takes or answers with, by name, parameters and types. A slice `x: &[T]` is there a pointer `x` and a number `x_len`.
 
 use std::fs;
 use std::path::Path;
@@ -75,7 +75,7 @@ fn items(source: &str, mark: &str, open: char, close: char) -> Vec<Item> {
 
 fn structs() -> Vec<Item> {
     let mark = "#[repr(C)] pub struct ";
-    ["face_numbers", "face_answers"]
+    ["face_values", "face_numbers", "face_answers"]
         .iter()
         .flat_map(|name| items(&file(&format!("crates/{name}/src/lib.rt")), mark, '{', '}'))
         .collect()
@@ -163,7 +163,7 @@ fn stand_in(path: &str, mark: &str, declared: &[String]) {
 
 #[test]
 fn the_library_has_entries() {
-    assert_eq!((structs().len(), functions().len()), (5, 17));
+    assert_eq!((structs().len(), functions().len()), (6, 17));
 }
 
 #[test]
@@ -209,4 +209,10 @@ fn c_functions() {
     };
     let all: Vec<String> = functions().iter().map(shown).collect();
     stand_in("c/seeds.h", ");", &all);
+}
+
+#[test]
+fn the_header_has_the_version() {
+    let version = format!("#define SEEDS_VERSION \"{}\"", seeds::VERSION);
+    assert!(file("c/seeds.h").contains(&version), "{version}");
 }

@@ -4,14 +4,10 @@
 use seeds::{
     check_cubes, check_list, check_set, check_stop, check_window, encode_cubes, encode_set,
     encode_sheet, encode_text, expand, expand_list, expand_text, stop_slice, window_seed, Machine,
-    Refusal, TestSlice, TestSlices, LONGEST_OUTPUT, MOST_SLICES,
+    Refusal, Settings, TestSlice, TestSlices, LONGEST_OUTPUT, MOST_SLICES,
 };
 
-const R: Machine = Machine {
-    cells: 3,
-    taps: 6,
-    masks: &[1, 4],
-};
+const R: Machine = Machine::new(Settings::new(3, 6), &[1, 4]);
 const STOP: TestSlice = TestSlice {
     specified: 3,
     bits: 2,
@@ -65,37 +61,19 @@ fn the_right_calls() {
 #[test]
 fn cells_and_taps() {
     for cells in [0, 65, 1 << 32, usize::MAX] {
-        all_refused(Machine { cells, ..R }, 1);
+        all_refused(Machine::new(Settings::new(cells, 6), R.masks), 1);
     }
     for taps in [0, 2, 8 | 4, u64::MAX] {
-        all_refused(Machine { taps, ..R }, 1);
+        all_refused(Machine::new(Settings::new(3, taps), R.masks), 1);
     }
 }
 
 #[test]
 fn no_chain_too_many_chains_and_unlawful_masks() {
-    all_refused(Machine { masks: &[], ..R }, 2);
-    all_refused(
-        Machine {
-            masks: &[1; 65],
-            ..R
-        },
-        2,
-    );
-    all_refused(
-        Machine {
-            masks: &[1, 0],
-            ..R
-        },
-        2,
-    );
-    all_refused(
-        Machine {
-            masks: &[1, 8],
-            ..R
-        },
-        2,
-    );
+    all_refused(Machine::new(R.settings, &[]), 2);
+    all_refused(Machine::new(R.settings, &[1; 65]), 2);
+    all_refused(Machine::new(R.settings, &[1, 0]), 2);
+    all_refused(Machine::new(R.settings, &[1, 8]), 2);
     assert_eq!(stop_slice(0, SET), refusal(2, 0));
     assert_eq!(stop_slice(65, SET), refusal(2, 0));
     assert_eq!(check_stop(usize::MAX, SET), refusal(2, 0));

@@ -5,6 +5,7 @@ use crate::inputs::{damage, lawful};
 use crate::library;
 use crate::random::Random;
 use crate::report::{same, Outcome};
+use seeds::Settings;
 
 /// Steps of lawful registers of 1 to 64 cells from random states.
 pub fn steps() -> Outcome {
@@ -15,7 +16,7 @@ pub fn steps() -> Outcome {
         let taps = random.bits(cells) | 1 << (cells - 1);
         let mut state = random.bits(cells);
         for _ in 0..10 {
-            let next = library::step(cells, taps, state);
+            let next = library::step(Settings::new(cells, taps), state);
             same(
                 &format!("step of {cells} cells, taps {taps:x}, state {state:x}"),
                 next,

@@ -3,7 +3,7 @@
 use crate::call::Call;
 use second::Refused;
 pub use seeds::raw::{Answer, CubesAnswer, SeedAnswer, StopAnswer, TextAnswer};
-use seeds::{entries, raw, Machine, TestSlice, TestSlices};
+use seeds::{entries, raw, Machine, Settings, TestSlice, TestSlices};
 pub use seeds::{slice, step};
 
 /// The second program's answer as the library gives it.
@@ -93,11 +93,7 @@ pub fn expand_text(text: &mut [u8], out: &mut [u8]) -> TextAnswer {
 
 impl Call {
     fn machine(&self) -> Machine<'_> {
-        Machine {
-            cells: self.cells,
-            taps: self.taps,
-            masks: &self.masks,
-        }
+        Machine::new(Settings::new(self.cells, self.taps), &self.masks)
     }
 
     fn set(&self) -> TestSlices<'_> {

@@ -5,7 +5,7 @@ use crate::lent::{lend, room};
 use crate::parts::{weights, Bytes, Parts};
 use second::Refused;
 use seeds::raw::{Answer, CubesAnswer, SeedAnswer, StopAnswer};
-use seeds::{entries, Machine, TestSlice, TestSlices};
+use seeds::{entries, Machine, Settings, TestSlice, TestSlices};
 
 /// The number and value of an answer, where `Ok` has the value of an accepted call.
 fn told(answer: Result<usize, Refused>) -> Answer {
@@ -45,11 +45,7 @@ fn entry(place: usize) -> u64 {
 /// A call's parts in the wrapper's words.
 impl Parts {
     fn machine(&self) -> Machine<'_> {
-        Machine {
-            cells: self.cells,
-            taps: self.taps,
-            masks: &self.masks,
-        }
+        Machine::new(Settings::new(self.cells, self.taps), &self.masks)
     }
 
     fn stop(&self) -> TestSlice {
@@ -72,7 +68,7 @@ impl Parts {
 fn leaves(p: &Parts, word: u64) {
     let held = weights(p.cells);
     let (taps, state) = (p.taps & held, word & held);
-    let next = seeds::step(p.cells, taps, state);
+    let next = seeds::step(Settings::new(p.cells, taps), state);
     assert_eq!(next, second::step(p.cells as u64, taps, state), "step");
     let slice = seeds::slice(&p.masks, word);
     assert_eq!(slice, second::slice(&p.masks, word), "slice");

@@ -1,7 +1,7 @@
 // How each seed of a list runs to its stop slice over the test slices of its sheet. States and slices are the library's.
 
 use crate::text;
-use seeds::TestSlice;
+use seeds::{Settings, TestSlice};
 
 /// One slice of a seed: the state that it comes from, and the test slice, or at the end the stop slice, that it is held against.
 pub struct Moment {
@@ -78,7 +78,7 @@ impl Sheet {
                     moments,
                 });
             }
-            state = seeds::step(self.cells, self.taps, state);
+            state = seeds::step(Settings::new(self.cells, self.taps), state);
         }
         Err(format!("the seed {seed:x} does not run to its stop slice"))
     }

@@ -2,7 +2,7 @@
 --     cubes-formed               none of causes 1 to 4 holds
 --     cubes-stop, cubes-set      the stop slice may be asked for; with a stop slice that is well-formed, they are a set
 -- Assumes nothing.
-use mathlib.Core.Path.{_≡_, refl}
+use mathlib.Core.Path.{_≡_, refl, _∙_}
 use mathlib.Core.Bool.{false}
 use mathlib.Core.List.{List}
 use Prim.Native.Nat.{ℕ}
@@ -11,9 +11,11 @@ use Rattle.machine_settings.specs.declared.Settings.{Settings}
 use Rattle.machine_chains.proofs.Causes.{chains-counted}
 use Rattle.machine_slices.specs.declared.TestSlice.{TestSlice}
 use Rattle.machine_slices.specs.Slices.{badStop}
+use Rattle.refusal_lengths.specs.Lengths.{badSet, badCubes}
 use Rattle.refusal_order.specs.Order.{judged}
 use Rattle.refusal_checks.specs.Calls.{stoppedFaults, setFaults, cubesFaults, stopFaults}
 use Rattle.refusal_order.proofs.Order.{well-formed, formed-well}
+use Rattle.refusal_checks.proofs.Limited.{limit-good, limited-parts}
 use Rattle.refusal_lengths.proofs.Lengths.{cubes-lengths}
 use Rattle.encoder_cubes.specs.Formed.{CubesFormed}
 use Rattle.refusal_order.specs.declared.Verdict.the-variants as verdict
@@ -23,7 +25,8 @@ module _ (g : Settings) (masks ps bs : List ℕ) where
   unfolding cubesFaults
   cubes-formed depth w =
       let f = formed-well (cubesFaults g masks depth ps bs) w in
-      record { register = f .register; chains = f .chains; lengths = cubes-lengths depth (length ps) (f .lengths); slices = f .slices }
+      let p = limited-parts g (badCubes depth (length ps)) (f .lengths) in
+      record { register = f .register; chains = f .chains; limit = p .0; lengths = cubes-lengths depth (length ps) (p .2); slices = f .slices }
 
   module _ (c : CubesFormed g masks ps bs) where
     pub cubes-stop : judged (stopFaults (length masks) ps bs) ≡ verdict.WellFormed
@@ -41,7 +44,7 @@ module _ (g : Settings) (masks ps bs : List ℕ) where
     cubes-set st b = well-formed (setFaults g masks st ps bs) (record {
       register = c .register;
       chains = c .chains;
-      lengths = c .lengths;
+      lengths = limit-good g (badSet (length ps)) (c .limit) ∙ c .lengths;
       slices = c .slices;
       stop = b;
     })

@@ -9,10 +9,11 @@ use Rattle.machine_settings.specs.declared.Settings.{Settings}
 use Rattle.machine_register.specs.Register.{badRegister}
 use Rattle.machine_chains.specs.Chains.{badChains}
 use Rattle.machine_slices.specs.Slices.{badSlices}
-use Rattle.refusal_lengths.specs.Lengths.{badSet}
+use Rattle.refusal_lengths.specs.Lengths.{badLimit, badSet}
 
 pub record CubesFormed (g : Settings) (masks specified bits : List ℕ) : Type 0 where
   pub register : badRegister (g .cells) (g .taps) ≡ false
   pub chains : badChains (g .cells) masks ≡ false
+  pub limit : badLimit (g .limit) ≡ false
   pub lengths : badSet (length specified) ≡ false
   pub slices : badSlices (length masks) specified bits ≡ false

@@ -6,8 +6,6 @@ use refusal_causes::Written;
 use refusal_order::Verdict;
 use stop_slice::Formed;
 ghost use mathlib.Core.Path.{_≡_};
-ghost use Prim.Native.Nat.{_≤_};
-ghost use Rattle.machine_settings.specs.Machine.{base};
 ghost use Rattle.encoder_cubes.specs.Cubes.{cubesEncoding, encodeCubes, stopped};
 ghost use Rattle.encoder_cubes.specs.Formed.{CubesFormed};
 ghost use Rattle.encoder_cubes.specs.Meaning.{CubesMeaning};
@@ -36,7 +34,7 @@ fn encode_formed(
     bits: &[u64],
     out: &mut [u64],
 ) -> Encoded
-    requires { ⌜ CubesFormed settings (now masks) (now specified) (now bits) × (settings .limit ≤ 256) ⌝ }
+    requires { ⌜ CubesFormed settings (now masks) (now specified) (now bits) ⌝ }
     ensures answer { λ r. ⌜ r ≡ cubesEncoding settings (now (masks .entry)) (now (specified .entry)) (now (bits .entry)) (now (out .entry)) .answer ⌝ }
     ensures buffer { λ _. ⌜ now (out .exit) ≡ cubesEncoding settings (now (masks .entry)) (now (specified .entry)) (now (bits .entry)) (now (out .entry)) .buffer ⌝ }
 {
@@ -52,19 +50,17 @@ fn encode_formed(
 
 // The encoding of cubes of so many slices each: the stop slice of the steps and how many seeds were written into the buffer, or the first of causes 1 to 4 that holds, then 6, then 8, then 9.
 pub fn encode_cubes(
-    cells: usize,
-    taps: u64,
+    settings: Settings,
     masks: &[u64],
     depth: usize,
     specified: &[u64],
     bits: &[u64],
     out: &mut [u64],
 ) -> Encoded
-    ensures answer { λ r. ⌜ r ≡ encodeCubes (base cells taps) (now (masks .entry)) depth (now (specified .entry)) (now (bits .entry)) (now (out .entry)) .answer ⌝ }
-    ensures buffer { λ _. ⌜ now (out .exit) ≡ encodeCubes (base cells taps) (now (masks .entry)) depth (now (specified .entry)) (now (bits .entry)) (now (out .entry)) .buffer ⌝ }
-    ensures meaning { λ r. ⌜ CubesMeaning (base cells taps) (now (masks .entry)) depth (now (specified .entry)) (now (bits .entry)) (now (out .entry)) (record { answer = r; buffer = now (out .exit) }) ⌝ }
+    ensures answer { λ r. ⌜ r ≡ encodeCubes settings (now (masks .entry)) depth (now (specified .entry)) (now (bits .entry)) (now (out .entry)) .answer ⌝ }
+    ensures buffer { λ _. ⌜ now (out .exit) ≡ encodeCubes settings (now (masks .entry)) depth (now (specified .entry)) (now (bits .entry)) (now (out .entry)) .buffer ⌝ }
+    ensures meaning { λ r. ⌜ CubesMeaning settings (now (masks .entry)) depth (now (specified .entry)) (now (bits .entry)) (now (out .entry)) (record { answer = r; buffer = now (out .exit) }) ⌝ }
 {
-    let settings = machine_settings::base(cells, taps);
     let verdict = refusal_checks::check_cubes(settings, masks, depth, specified, bits);
     match verdict {
         Verdict::Refused(cause) => Encoded::Refused(cause),

@@ -1,33 +1,46 @@
--- A start of a set in the base, as the loop that gathers the seeds takes it.
+-- A start in a segment, as the loop that gathers the seeds takes it.
+--     segment-closes  which windows close with their stop
 --     part-bounds     the part that a window from there may take
 --     part-slices     its slices are well-formed
 --     part-window     the longest window of the part is the greedy one
 -- Assumes nothing.
-use mathlib.Core.Path.{_≡_, sym, ap, _∙_}
-use mathlib.Core.Bool.{true, false}
+use mathlib.Core.Path.{_≡_, refl, sym, ap, _∙_}
+use mathlib.Core.Logic.{⊎-elim}
+use mathlib.Core.Bool.{Bool, true, false, _||_}
 use mathlib.Core.List.{List}
 use Prim.Native.Nat.{ℕ, _-_, _≤_, min}
 use native.Mathlib.Omega.{arith}
+use lib.Dec.{ltb}
 use lib.ListN.{length, take, drop, length-take, length-drop}
+use borrow.Author.Tests.{eq-eqb, ne-eqb, lt-ltb, le-ltb}
+use Rattle.words_bounded.proofs.Tests.{lt-or-le}
 use Rattle.machine_settings.specs.declared.Settings.{Settings}
 use Rattle.machine_settings.specs.Machine.{Machine, machine}
 use Rattle.machine_slices.specs.declared.TestSlice.{TestSlice}
 use Rattle.machine_slices.specs.Slices.{paired, badSlices}
 use Rattle.machine_slices.proofs.Causes.{slices-equal}
 use Rattle.machine_slices.proofs.Formed.{paired-take, paired-drop, slices-length, slices-take, slices-drop}
-use Rattle.theory_covering.specs.Rules.{Rules, rules}
+use Rattle.theory_covering.specs.Rules.{Rules, segmentRules}
 use Rattle.theory_covering.specs.Windows.{part, far, closes}
-use Rattle.theory_covering.proofs.Places.{far-rules}
+use Rattle.theory_covering.proofs.Places.{far-segment}
 use Rattle.window_lengths.specs.Longest.{reachOf}
 use Rattle.window_lengths.specs.declared.Window.{Window}
 use Rattle.encoder_gathering.proofs.Reaching.{Reaches, reaches}
 
-module _ (g : Settings) (masks : List ℕ) (stop : TestSlice) (ps bs : List ℕ) (b : badSlices (length masks) ps bs ≡ false) where
+segment-closes : (g : Settings) (stop : TestSlice) (closing : Bool) (n e : ℕ) → e ≤ n → closes (segmentRules g stop closing) n e ≡ (closing || ltb e n)
+unfolding closes
+segment-closes g stop true n e h = refl
+segment-closes g stop false n e h = ⊎-elim
+    (λ l. rw (ne-eqb e n (λ q. omega arith), lt-ltb e n l))
+    (λ l. let q : e ≡ n = omega arith in rw (eq-eqb e n q, le-ltb e n l))
+    (lt-or-le e n)
+
+module _ (g : Settings) (masks : List ℕ) (stop : TestSlice) (closing : Bool) (ps bs : List ℕ) (b : badSlices (length masks) ps bs ≡ false) where
   abbrev M : Machine
   M = machine g masks
 
   abbrev R : Rules
-  R = rules g stop
+  R = segmentRules g stop closing
 
   abbrev set : List TestSlice
   set = paired ps bs
@@ -38,7 +51,7 @@ module _ (g : Settings) (masks : List ℕ) (stop : TestSlice) (ps bs : List ℕ)
   module _ (a e : ℕ) (within : a ≤ length ps) (end : e ≡ far R (length ps) a) where
     pub part-bounds : (a ≤ e) × (e ≤ length ps) × (e ≤ length bs) × (length (take (e - a) (drop a ps)) ≤ min (g .limit) (length ps))
     part-bounds =
-        let f = end ∙ far-rules g stop (length ps) a in
+        let f = end ∙ far-segment g stop closing (length ps) a in
         let l = slices-equal (length masks) ps bs b in
         (omega arith, omega arith, omega arith, omega (arith, length-take (e - a) (drop a ps), length-drop a ps))
 
@@ -51,6 +64,7 @@ module _ (g : Settings) (masks : List ℕ) (stop : TestSlice) (ps bs : List ℕ)
         ∙ ap (take (e - a)) (paired-drop a ps bs (slices-equal (length masks) ps bs b))
         ∙ ap (λ (k : ℕ). take (k - a) (drop a set)) (end ∙ ap (λ (n : ℕ). far R n a) (sym long))
 
-    pub part-window : (r : Window) → r ≡ reachOf M stop true (paired (take (e - a) (drop a ps)) (take (e - a) (drop a bs))) → Reaches M R set a r
-    unfolding closes
-    part-window r q = rw (q, same-part) (reaches M R set a (omega (arith, long)))
+    pub part-window : (c : Bool) → c ≡ (closing || ltb e (length ps)) → (r : Window) → r ≡ reachOf M stop c (paired (take (e - a) (drop a ps)) (take (e - a) (drop a bs))) → Reaches M R set a r
+    part-window c s r q =
+        let l : c ≡ closes R (length set) (far R (length set) a) = s ∙ sym (segment-closes g stop closing (length ps) e (part-bounds .1)) ∙ rw (long, end) in
+        rw (q, same-part, l) (reaches M R set a (omega (arith, long)))

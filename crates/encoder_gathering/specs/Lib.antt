@@ -1,2 +1,2 @@
--- What gathering the windows of a set gives.
+-- What gathering the windows of a segment gives.
 pub mod Gathering

@@ -1,60 +1,68 @@
-// The windows of a set (document 01, "Covering and cutting"): from its first slice on, the longest window that some state covers, and its seed.
+// The windows of a segment of a set (document 01, "Covering and cutting"): from its first slice on, the longest window that some state covers, and its seed.
 use encoder_settling::Gathered;
 use machine_settings::Settings;
-use machine_slices::TestSlice;
-use search_rows::Pattern;
-ghost use mathlib.Core.Bool.{false};
-ghost use mathlib.Core.List.{_++_};
+use window_tables::Sought;
+ghost use mathlib.Core.Bool.{Bool, false};
 ghost use mathlib.Core.Path.{_≡_};
 ghost use Prim.Native.Nat.{suc, min, _≤_};
-ghost use lib.ListN.{drop, length};
+ghost use lib.ListN.{length};
+ghost use lib.Seq.{sets};
+ghost use Rattle.machine_settings.specs.Machine.{machine};
 ghost use Rattle.machine_slices.specs.declared.TestSlice.{TestSlice};
 ghost use Rattle.machine_slices.specs.Slices.{badSlices, paired};
-ghost use Rattle.theory_covering.specs.Rules.{rules};
+ghost use Rattle.theory_covering.specs.Rules.{segmentRules};
 ghost use Rattle.theory_covering.specs.Windows.{far as farOf};
-ghost use Rattle.window_tables.specs.Ready.{Ready};
-ghost use Rattle.encoder_gathering.specs.Gathering.{gathered as gatheredOf, gatheredSeeds};
+ghost use Rattle.window_tables.specs.Tables.{TablesFor};
+ghost use Rattle.encoder_gathering.specs.Gathering.{gathered, gatheredSeeds};
 
-// How far a window from a start may go: up to the limit, and not beyond the set.
+// How far a window from a start may go: up to the limit, and not beyond the segment.
 fn far(settings: Settings, slices: usize, start: usize) -> usize
     requires { ⌜ (settings .limit ≤ 256) × (start ≤ 2048) ⌝ }
-    ensures { λ r. ⌜ ((stop : TestSlice) → r ≡ farOf (rules settings stop) slices start) ⌝ }
+    ensures { λ r. ⌜ ((stop : TestSlice) (closing : Bool) → r ≡ farOf (segmentRules settings stop closing) slices start) ⌝ }
 {
     words_bounded::lesser(slices, start + settings.limit)
 }
 
-// The seeds of a set's windows, each the longest from where the one before ends, until the end or a start from which no window leads on.
-// An inner function: its callers show that the set is well-formed, that the tables are those of the register, the chains and the stop slice, and that there is an entry for each seed.
+// The seeds of a segment's windows, behind the earlier ones: each window is the longest from where the one before ends, until the end of the slices or a start from which none leads on.
+// The segment begins where the earlier windows lead; a window that ends it closes with its stop where `sought` says so, any other always.
+// An inner function: its callers show that the slices are well-formed, that the tables are those of the register, the chains and the stop slice, and that there is an entry for each seed.
 pub fn gather(
-    settings: Settings,
+    sought: Sought,
     masks: &[u64],
-    stop: TestSlice,
-    pattern: Pattern,
     table: &[u64],
-    clauses: &[u64],
+    stops: &[u64],
     specified: &[u64],
     bits: &[u64],
+    earlier: Gathered,
     seeds: &mut [u64],
 ) -> Gathered
-    requires ready { ⌜ Ready settings (now masks) stop pattern (now table) (now clauses) (suc (min (settings .limit) (length (now specified)))) ⌝ }
+    requires ready { ⌜ TablesFor sought (now masks) (now table) (now stops) (suc (min (sought .settings .limit) (length (now specified)))) ⌝ }
     requires slices { ⌜ badSlices (length (now masks)) (now specified) (now bits) ≡ false ⌝ }
-    requires lengths { ⌜ (settings .limit ≤ 256) × (length (now specified) ≤ 2048) × (length (now specified) ≤ length (now seeds)) ⌝ }
-    ensures answer { λ r. ⌜ r ≡ gatheredOf settings (now (masks .entry)) stop (paired (now (specified .entry)) (now (bits .entry))) ⌝ }
-    ensures buffer { λ _. ⌜ now (seeds .exit) ≡ gatheredSeeds settings (now (masks .entry)) stop (paired (now (specified .entry)) (now (bits .entry))) ++ drop (length (gatheredSeeds settings (now (masks .entry)) stop (paired (now (specified .entry)) (now (bits .entry))))) (now (seeds .entry)) ⌝ }
+    requires lengths { ⌜ (sought .settings .limit ≤ 256) × (length (now specified) ≤ 2048) × (length (now specified) ≤ length (now seeds)) ⌝ }
+    requires earlier { ⌜ (earlier .count ≤ earlier .place) × (earlier .place ≤ length (now specified)) ⌝ }
+    ensures answer { λ r. ⌜ r ≡ gathered (machine (sought .settings) (now (masks .entry))) (segmentRules (sought .settings) (sought .stop) (sought .closing)) (paired (now (specified .entry)) (now (bits .entry))) earlier ⌝ }
+    ensures buffer { λ _. ⌜ now (seeds .exit) ≡ sets (now (seeds .entry)) (earlier .count) (gatheredSeeds (machine (sought .settings) (now (masks .entry))) (segmentRules (sought .settings) (sought .stop) (sought .closing)) (paired (now (specified .entry)) (now (bits .entry))) (earlier .place)) ⌝ }
 {
+    let settings = sought.settings;
+    let stop = sought.stop;
+    let pattern = sought.pattern;
     let slices = specified.len();
-    let mut place: usize = 0;
-    let mut count: usize = 0;
+    let mut place = earlier.place;
+    let mut count = earlier.count;
     while place < slices {
         let end = far(settings, slices, place);
-        let longest = window_longest::reach(
+        let closing = sought.closing || end < slices;
+        let part = Sought {
             settings,
-            masks,
             stop,
             pattern,
+            closing,
+        };
+        let longest = window_longest::reach(
+            part,
+            masks,
             table,
-            clauses,
-            true,
+            stops,
             &specified[place..end],
             &bits[place..end],
         );

@@ -25,6 +25,7 @@ use Rattle.refusal_checks.specs.Calls.{setFaults, listFaults}
 use Rattle.refusal_order.specs.declared.Verdict.{Verdict}
 use Rattle.refusal_lengths.proofs.Lengths.{set-within, list-seeds}
 use Rattle.refusal_order.proofs.Order.{well-formed}
+use Rattle.refusal_checks.proofs.Limited.{limit-good}
 use Rattle.refusal_checks.proofs.Stopped.{StoppedFormed, set-formed}
 use Rattle.theory_cutting.proofs.Parts.{covering-length, cuts-count}
 use Rattle.theory_covering.specs.Rules.{Rules, rules}
@@ -66,7 +67,7 @@ module _ (g : Settings) (masks : List ℕ) (stop : TestSlice) (specified bits : 
   list-formed w seeds l = well-formed (listFaults g masks stop (length specified) (length seeds)) (record {
     register = formed w .register;
     chains = formed w .chains;
-    lengths = list-seeds (length specified) (length seeds) (formed w .lengths) ∙ le-ltb 2048 (length seeds) (few-seeds w seeds l);
+    lengths = limit-good g _ (formed w .limit) ∙ list-seeds (length specified) (length seeds) (formed w .lengths) ∙ le-ltb 2048 (length seeds) (few-seeds w seeds l);
     slices = refl;
     stop = formed w .stop;
   })

@@ -1,11 +1,12 @@
 // The encoding of a set with its stop slice (document 01, "Covering and cutting").
+use encoder_settling::Gathered;
 use machine_settings::Settings;
 use machine_slices::TestSlice;
 use refusal_causes::Written;
 use refusal_order::Verdict;
+use window_tables::Sought;
 ghost use mathlib.Core.Path.{_≡_};
-ghost use Prim.Native.Nat.{_≤_};
-ghost use Rattle.machine_settings.specs.Machine.{base, machine};
+ghost use Rattle.machine_settings.specs.Machine.{machine};
 ghost use Rattle.machine_slices.specs.Slices.{paired};
 ghost use Rattle.refusal_order.specs.Order.{judged};
 ghost use Rattle.refusal_checks.specs.Calls.{setFaults};
@@ -24,26 +25,32 @@ pub fn encode(
     bits: &[u64],
     out: &mut [u64],
 ) -> Written
-    requires { ⌜ (judged (setFaults settings (now masks) stop (now specified) (now bits)) ≡ verdict.WellFormed) × (settings .limit ≤ 256) ⌝ }
+    requires { ⌜ judged (setFaults settings (now masks) stop (now specified) (now bits)) ≡ verdict.WellFormed ⌝ }
     ensures answer { λ r. ⌜ r ≡ encoding (machine settings (now (masks .entry))) (rules settings stop) (paired (now (specified .entry)) (now (bits .entry))) (now (out .entry)) .answer ⌝ }
     ensures buffer { λ _. ⌜ now (out .exit) ≡ encoding (machine settings (now (masks .entry))) (rules settings stop) (paired (now (specified .entry)) (now (bits .entry))) (now (out .entry)) .buffer ⌝ }
 {
     let mut table = [0u64; window_tables::MOST_ENTRIES];
-    let mut clauses = [0u64; window_tables::MOST_ENTRIES];
+    let mut stops = [0u64; window_tables::MOST_ENTRIES];
     let mut seeds = [0u64; refusal_lengths::MOST_SLICES];
     let taps = settings.taps;
     let rows = words_bounded::lesser(settings.limit, specified.len()) + 1;
     search_table::fill(taps, masks, rows, &mut table);
-    let pattern = window_tables::fill_clauses(taps, masks, stop, rows, &mut clauses);
-    let gathered = encoder_gathering::gather(
+    let pattern = window_tables::fill_stops(taps, masks, stop, rows, &mut stops);
+    let sought = Sought {
         settings,
-        masks,
         stop,
         pattern,
+        closing: true,
+    };
+    let none = Gathered { place: 0, count: 0 };
+    let gathered = encoder_gathering::gather(
+        sought,
+        masks,
         &table,
-        &clauses,
+        &stops,
         specified,
         bits,
+        none,
         &mut seeds,
     );
     encoder_settling::settle(specified.len(), gathered, &seeds, out)
@@ -51,19 +58,17 @@ pub fn encode(
 
 // The encoding of a set with its stop slice: how many seeds were written into the buffer, or the first of causes 1 to 5 that holds, then 8, then 9.
 pub fn encode_set(
-    cells: usize,
-    taps: u64,
+    settings: Settings,
     masks: &[u64],
     stop: TestSlice,
     specified: &[u64],
     bits: &[u64],
     out: &mut [u64],
 ) -> Written
-    ensures answer { λ r. ⌜ r ≡ encodeSet (base cells taps) (now (masks .entry)) stop (now (specified .entry)) (now (bits .entry)) (now (out .entry)) .answer ⌝ }
-    ensures buffer { λ _. ⌜ now (out .exit) ≡ encodeSet (base cells taps) (now (masks .entry)) stop (now (specified .entry)) (now (bits .entry)) (now (out .entry)) .buffer ⌝ }
-    ensures meaning { λ r. ⌜ SetMeaning (base cells taps) (now (masks .entry)) stop (now (specified .entry)) (now (bits .entry)) (now (out .entry)) (record { answer = r; buffer = now (out .exit) }) ⌝ }
+    ensures answer { λ r. ⌜ r ≡ encodeSet settings (now (masks .entry)) stop (now (specified .entry)) (now (bits .entry)) (now (out .entry)) .answer ⌝ }
+    ensures buffer { λ _. ⌜ now (out .exit) ≡ encodeSet settings (now (masks .entry)) stop (now (specified .entry)) (now (bits .entry)) (now (out .entry)) .buffer ⌝ }
+    ensures meaning { λ r. ⌜ SetMeaning settings (now (masks .entry)) stop (now (specified .entry)) (now (bits .entry)) (now (out .entry)) (record { answer = r; buffer = now (out .exit) }) ⌝ }
 {
-    let settings = machine_settings::base(cells, taps);
     let verdict = refusal_checks::check_set(settings, masks, stop, specified, bits);
     match verdict {
         Verdict::Refused(cause) => Written::Refused(cause),

@@ -1,3 +1,4 @@
 -- The starred examples of document 01.
 pub mod Reading
 pub mod Table
+pub mod OpenEnd

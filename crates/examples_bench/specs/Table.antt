@@ -24,9 +24,9 @@ use Rattle.machine_chains.specs.Chains.{slice as chainsSlice, badCount, badMask
 use Rattle.machine_settings.specs.Machine.{Machine, base, machine}
 use Rattle.machine_slices.specs.declared.TestSlice.{TestSlice}
 use Rattle.machine_slices.specs.Slices.{agrees, shows, paired, badSlice, badSlices, badStop}
-use Rattle.refusal_lengths.specs.Lengths.{badWindow, badSet, badCubes, badList}
+use Rattle.refusal_lengths.specs.Lengths.{badLimit, badWindow, badSet, badCubes, badList}
 use Rattle.refusal_order.specs.Order.{tests, firstOf, judged}
-use Rattle.refusal_checks.specs.Calls.{stoppedFaults, windowFaults, setFaults, cubesFaults, stopFaults, listFaults}
+use Rattle.refusal_checks.specs.Calls.{limited, stoppedFaults, windowFaults, setFaults, cubesFaults, stopFaults, listFaults}
 use Rattle.theory_cutting.specs.Greedy.{reach, hop, ends, greedy}
 use Rattle.stop_steps.specs.Steps.{filter, count, better, choice, settle, keep, setBy, advance, stage, ended, stopFor}
 use Rattle.stop_slice.specs.Entry.{stopOr6, stopOf}
@@ -38,7 +38,7 @@ use Rattle.theory_covering.specs.Single.{lowestOr7, windowSeed}
 use Rattle.theory_covering.specs.declared.Seed.{Seed}
 use Rattle.theory_covering.specs.declared.Seed.the-variants as seed
 use Rattle.expander_meaning.specs.Run.{slicesOf, firstStop, ending, delivers}
-use Rattle.expander_meaning.specs.Expanding.{after, walk, totalled, expanding, expandList}
+use Rattle.expander_meaning.specs.Expanding.{after, adding, walk, totalled, expanding, expandList}
 use Rattle.encoder_meaning.specs.Encoding.{seedsOf, planned, encoding, encodeSet}
 use Rattle.encoder_cubes.specs.Cubes.{CubesOutcome, stopped, withStop, cubesEncoding, encodeCubes}
 use Rattle.encoder_cubes.specs.declared.Encoded.{Encoded}
@@ -159,5 +159,5 @@ tolds [] = []
 tolds (r ∷ rs) = r .told ∷ tolds rs
 
 pub starred : answers table ≡ tolds table
-unfolding answers tolds answer refusal states showings of-formed of-seed of-written of-encoded yes digit odd beyond ones onesIn within any leastBelow lastBelow refuse fill step badRegister chainsSlice badCount badMask badChains agrees shows paired badSlice badSlices badStop badWindow badSet badCubes badList tests firstOf judged stoppedFaults windowFaults setFaults cubesFaults stopFaults listFaults reach hop ends greedy filter count better choice settle keep setBy advance stage ended stopFor stopOr6 stopOf fits quiet covers seedOf before far placed closes seedAt ok lowestOr7 windowSeed slicesOf firstStop ending delivers after walk totalled expanding expandList seedsOf planned encoding encodeSet stopped withStop cubesEncoding encodeCubes isCharacter specifiedAt bitAt inFront rowOf
+unfolding answers tolds answer refusal states showings of-formed of-seed of-written of-encoded yes digit odd beyond ones onesIn within any leastBelow lastBelow refuse fill step badRegister chainsSlice badCount badMask badChains agrees shows paired badSlice badSlices badStop badLimit badWindow badSet badCubes badList tests firstOf judged limited stoppedFaults windowFaults setFaults cubesFaults stopFaults listFaults reach hop ends greedy filter count better choice settle keep setBy advance stage ended stopFor stopOr6 stopOf fits quiet covers seedOf before far placed closes seedAt ok lowestOr7 windowSeed slicesOf firstStop ending delivers after adding walk totalled expanding expandList seedsOf planned encoding encodeSet stopped withStop cubesEncoding encodeCubes isCharacter specifiedAt bitAt inFront rowOf
 starred = refl

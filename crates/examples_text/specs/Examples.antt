@@ -17,15 +17,15 @@ use Rattle.refusal_causes.specs.Outcome.{refuse, fill}
 use Rattle.machine_register.specs.Register.{step, badRegister}
 use Rattle.machine_chains.specs.Chains.{slice, badCount, badMask, badChains}
 use Rattle.machine_slices.specs.Slices.{agrees, shows, paired, badSlice, badSlices, badStop}
-use Rattle.refusal_lengths.specs.Lengths.{badSet, badCubes, badList}
+use Rattle.refusal_lengths.specs.Lengths.{badLimit, badSet, badCubes, badList}
 use Rattle.refusal_order.specs.Order.{tests, firstOf, judged}
-use Rattle.refusal_checks.specs.Calls.{cubesFaults, listFaults}
+use Rattle.refusal_checks.specs.Calls.{limited, cubesFaults, listFaults}
 use Rattle.theory_cutting.specs.Greedy.{reach, hop, ends, greedy}
 use Rattle.stop_steps.specs.Steps.{filter, count, better, choice, settle, keep, setBy, advance, stage, ended, stopFor}
 use Rattle.theory_covering.specs.Covering.{fits, quiet, covers, seedOf}
 use Rattle.theory_covering.specs.Windows.{before, far, placed, closes, seedAt, ok}
 use Rattle.expander_meaning.specs.Run.{slicesOf, firstStop, ending, delivers}
-use Rattle.expander_meaning.specs.Expanding.{after, walk, totalled, expanding, expandList}
+use Rattle.expander_meaning.specs.Expanding.{after, adding, walk, totalled, expanding, expandList}
 use Rattle.encoder_meaning.specs.Encoding.{seedsOf, planned, encoding}
 use Rattle.encoder_cubes.specs.Cubes.{stopped, withStop, cubesEncoding, encodeCubes}
 use Rattle.text_keys.specs.Bytes.{bytes}
@@ -35,7 +35,7 @@ use Rattle.text_numbers.specs.Numbers.{worth, digits, leadingZero, number}
 use Rattle.text_characters.specs.Characters.{isCharacter, specifiedAt, bitAt, inFront, rowOf}
 use Rattle.text_lines.specs.Form.{numbered, sliced, characters, valued, keyed, named, formed}
 use Rattle.text_split.specs.Text.{split}
-use Rattle.text_place.specs.Places.{isRow, mayEnd}
+use Rattle.text_place.specs.Places.{isItem, mayEnd}
 use Rattle.text_ranges.specs.Ranges.{inOrder, outOfRange, rangeCause, tested, ranged, saying}
 use Rattle.text_order.specs.Order.{afterChains, afterMask, moved}
 use Rattle.text_taken.specs.Taking.{causeOf, refusedAt, takenOf, refusalOfLine, endOf}
@@ -179,5 +179,5 @@ tolds [] = []
 tolds (r ∷ rs) = r .told ∷ tolds rs
 
 pub worked : answers table ≡ tolds table
-unfolding answers tolds answer of-call ones onesIn within any leastBelow lastBelow digit odd beyond refuse fill step badRegister slice badCount badMask badChains agrees shows paired badSlice badSlices badStop badSet badCubes badList tests firstOf judged cubesFaults listFaults reach hop ends greedy filter count better choice settle keep setBy advance stage ended stopFor fits quiet covers seedOf before far placed closes seedAt ok slicesOf firstStop ending delivers after walk totalled expanding expandList seedsOf planned encoding stopped withStop cubesEncoding encodeCubes starts name keyOf rank same notation longest worth digits leadingZero number isCharacter specifiedAt bitAt inFront rowOf numbered sliced characters valued keyed named formed split isRow inOrder outOfRange rangeCause tested ranged saying afterChains afterMask moved mayEnd causeOf refusedAt takenOf refusalOfLine endOf reading readingOf picked lastOr glyph lastDigits numeral character charactersOf numberLine numberLines sliceLine sliceLines headText listText refusedText listReply slicesReply encoded expanded sheetReply seedListReply concluded encodeReply expandReply printed encodeText expandText answered called encodeCall expandCall
+unfolding answers tolds answer of-call ones onesIn within any leastBelow lastBelow digit odd beyond refuse fill step badRegister slice badCount badMask badChains agrees shows paired badSlice badSlices badStop badLimit badSet badCubes badList tests firstOf judged limited cubesFaults listFaults reach hop ends greedy filter count better choice settle keep setBy advance stage ended stopFor fits quiet covers seedOf before far placed closes seedAt ok slicesOf firstStop ending delivers after adding walk totalled expanding expandList seedsOf planned encoding stopped withStop cubesEncoding encodeCubes starts name keyOf rank same notation longest worth digits leadingZero number isCharacter specifiedAt bitAt inFront rowOf numbered sliced characters valued keyed named formed split isItem inOrder outOfRange rangeCause tested ranged saying afterChains afterMask moved mayEnd causeOf refusedAt takenOf refusalOfLine endOf reading readingOf picked lastOr glyph lastDigits numeral character charactersOf numberLine numberLines sliceLine sliceLines headText listText refusedText listReply slicesReply encoded expanded sheetReply seedListReply concluded encodeReply expandReply printed encodeText expandText answered called encodeCall expandCall
 worked = refl

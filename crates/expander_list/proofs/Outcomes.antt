@@ -3,7 +3,7 @@
 --     Found, found                                the slices that the seeds deliver
 --     found-whole                                 they are written
 --     call-refused, call-formed                   the whole call, by its checks
---     call-ready, few-seeds                       a well-formed call fits words, and has at most 2,048 seeds
+--     call-sized, few-seeds                       a well-formed call fits words, and has at most 2,048 seeds
 -- Assumes nothing.
 use mathlib.Core.Path.{_≡_, refl, sym, ap, _∙_}
 use mathlib.Core.Bool.{Bool, true, false}
@@ -28,10 +28,11 @@ use Rattle.refusal_order.specs.Order.{judged}
 use Rattle.refusal_checks.specs.Calls.{listFaults}
 use Rattle.refusal_order.specs.declared.Verdict.{Verdict}
 use Rattle.refusal_lengths.proofs.Lengths.{list-within}
+use Rattle.refusal_checks.proofs.Limited.{limited-parts}
 use Rattle.refusal_order.proofs.Order.{NoFault, formed-well}
 use Rattle.theory_covering.specs.Rules.{Rules, rules}
 use Rattle.expander_meaning.specs.Expanding.{Walk, ran, failed, walk, totalled, expanding, expandList}
-use Rattle.expander_meaning.specs.Ready.{Ready}
+use Rattle.expander_meaning.specs.Sized.{Sized}
 use Rattle.expander_total.specs.Tally.{tally}
 use Rattle.refusal_order.specs.declared.Verdict.the-variants as verdict
 
@@ -100,10 +101,10 @@ module _ (g : Settings) (masks : List ℕ) (stop : TestSlice) (n : ℕ) (seeds o
     faultless : NoFault (listFaults g masks stop n (length seeds))
     faultless = formed-well (listFaults g masks stop n (length seeds)) w
 
-    pub call-ready : g .limit ≤ 256 → Ready g masks
+    pub call-sized : Sized g masks
     unfolding listFaults
-    call-ready h = record { cells = cells-within (g .cells) (g .taps) (faultless .register) .1; limit = h; chains = chains-within (g .cells) masks (faultless .chains) .1 }
+    call-sized = record { cells = cells-within (g .cells) (g .taps) (faultless .register) .1; limit = limited-parts g _ (faultless .lengths) .1; chains = chains-within (g .cells) masks (faultless .chains) .1 }
 
     pub few-seeds : length seeds ≤ 2048
     unfolding listFaults
-    few-seeds = list-within n (length seeds) (faultless .lengths) .1
+    few-seeds = list-within n (length seeds) (limited-parts g _ (faultless .lengths) .2) .1

@@ -7,10 +7,10 @@ use refusal_order::Verdict;
 ghost use mathlib.Core.Path.{_≡_};
 ghost use Prim.Native.Nat.{_≤_};
 ghost use lib.ListN.{length};
-ghost use Rattle.machine_settings.specs.Machine.{base, machine};
+ghost use Rattle.machine_settings.specs.Machine.{machine};
 ghost use Rattle.theory_covering.specs.Rules.{rules};
 ghost use Rattle.expander_meaning.specs.Expanding.{expanding, expandList};
-ghost use Rattle.expander_meaning.specs.Ready.{Ready};
+ghost use Rattle.expander_meaning.specs.Sized.{Sized};
 
 // The expanding of a list that is well-formed: the seeds' causes, then 14, then 9, then the slices.
 fn expand_formed(
@@ -21,7 +21,7 @@ fn expand_formed(
     seeds: &[u64],
     out: &mut [u64],
 ) -> Written
-    requires ready { ⌜ Ready settings (now masks) ⌝ }
+    requires ready { ⌜ Sized settings (now masks) ⌝ }
     requires seeds { ⌜ length (now seeds) ≤ 2048 ⌝ }
     ensures answer { λ r. ⌜ r ≡ expanding (machine settings (now (masks .entry))) (rules settings stop) slices (now (seeds .entry)) (now (out .entry)) .answer ⌝ }
     ensures buffer { λ _. ⌜ now (out .exit) ≡ expanding (machine settings (now (masks .entry))) (rules settings stop) slices (now (seeds .entry)) (now (out .entry)) .buffer ⌝ }
@@ -44,18 +44,16 @@ fn expand_formed(
 
 // The slices of a seed list: how many were written into the buffer, or causes 1, 2, 3, 5, then 10, 11, 12 of the first refused seed, then 14, then 9.
 pub fn expand_list(
-    cells: usize,
-    taps: u64,
+    settings: Settings,
     masks: &[u64],
     stop: TestSlice,
     slices: usize,
     seeds: &[u64],
     out: &mut [u64],
 ) -> Written
-    ensures answer { λ r. ⌜ r ≡ expandList (base cells taps) (now (masks .entry)) stop slices (now (seeds .entry)) (now (out .entry)) .answer ⌝ }
-    ensures buffer { λ _. ⌜ now (out .exit) ≡ expandList (base cells taps) (now (masks .entry)) stop slices (now (seeds .entry)) (now (out .entry)) .buffer ⌝ }
+    ensures answer { λ r. ⌜ r ≡ expandList settings (now (masks .entry)) stop slices (now (seeds .entry)) (now (out .entry)) .answer ⌝ }
+    ensures buffer { λ _. ⌜ now (out .exit) ≡ expandList settings (now (masks .entry)) stop slices (now (seeds .entry)) (now (out .entry)) .buffer ⌝ }
 {
-    let settings = machine_settings::base(cells, taps);
     let verdict = refusal_checks::check_list(settings, masks, stop, slices, seeds.len());
     match verdict {
         Verdict::Refused(cause) => Written::Refused(cause),

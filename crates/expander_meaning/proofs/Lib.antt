@@ -5,3 +5,4 @@ pub mod OneSeed
 pub mod Walks
 pub mod Places
 pub mod Running
+pub mod LastSeed

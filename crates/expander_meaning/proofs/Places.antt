@@ -66,4 +66,4 @@ module _ (g : Settings) (masks : List ℕ) (stop : TestSlice) (seeds : List ℕ)
       pub walk-next : (m : ℕ) → stops ≡ some m → 0 < m → rest ≡ after (slicesOf M m seed) (walk M R n (place + 1) (done + m) (drop (place + 1) seeds))
       walk-next m e h =
           rw add-one (ap (walk M R n place done) split
-          ∙ walk-gives M R n place done seed (drop (suc place) seeds) m (by-stop ∙ ap (ending place false (n - done)) e ∙ ending-closed place (n - done) m h))
+          ∙ walk-gives M R n place done seed (drop (suc place) seeds) m (by-stop ∙ ap (ending place false (n - done)) e ∙ ending-closed place (n - done) m h) h)

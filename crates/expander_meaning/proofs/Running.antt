@@ -19,7 +19,7 @@ use Rattle.machine_settings.proofs.Machine.{machine-slice, machine-step}
 use Rattle.machine_slices.specs.declared.TestSlice.{TestSlice}
 use Rattle.machine_slices.specs.Slices.{shows}
 use Rattle.expander_meaning.specs.Run.{firstStop}
-use Rattle.expander_meaning.specs.Ready.{Ready}
+use Rattle.expander_meaning.specs.Sized.{Sized}
 
 abbrev later : ℕ → Option ℕ → Option ℕ
 later t o = Option·map (λ k. t + k) o
@@ -57,7 +57,7 @@ module _ (M : Machine) (stop : TestSlice) (limit seed : ℕ) where
           record { within = omega arith; found = s .found ∙ rw (quiet, firstStop, e) (later-more t (firstStop M stop (suc (limit - (t + 1))) (M .step state))) }
 
 -- what the code computes on words
-module _ (g : Settings) (masks : List ℕ) (ready : Ready g masks) (s : ℕ) where
+module _ (g : Settings) (masks : List ℕ) (ready : Sized g masks) (s : ℕ) where
   pub sliced : (v : ℕ) → v ≡ slice (take 64 masks) s → machine g masks .slice s ≡ v
   sliced v e = sym (e ∙ machine-slice g masks s (ready .chains))
 

@@ -73,7 +73,7 @@ module _ (M : Machine) (R : Rules) (set : List TestSlice) (closed : R .openEnd �
   walk-more place a k s ss ws c e =
       let b = bounds a k s c in
       let q : a + (k - a) ≡ k = omega arith in
-      walk-gives M R n place a s ss (k - a) (window-delivers a k s c place (n - a) (isLast ss)) ∙ rw (q, e)
+      walk-gives M R n place a s ss (k - a) (window-delivers a k s c place (n - a) (isLast ss)) (omega arith) ∙ rw (q, e)
 
   walk-covering : (place : ℕ) {a b : ℕ} {es ss : List ℕ} → Covering (CoveredBy M R set) a es ss b → b ≡ n
       → (vs : List ℕ) × (walk M R n place a ss ≡ ran vs) × Agree (drop a set) vs

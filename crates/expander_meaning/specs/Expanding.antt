@@ -2,13 +2,14 @@
 --     Walk                                  the slices of all seeds, or the cause of the first refused seed
 --     after vs w                            the slices vs, then those of the walk w
 --     isLast ss                             no seed is left behind this one
+--     adding M done s m w                   the seed s delivers m slices after done others, then comes the walk w
 --     walk M R n place done seeds           the seeds from that place on, when done of n slices are delivered
 --     totalled n out w                      the outcome of a walk: its cause, 14 where the total differs, or the slices, or 9
 --     expanding M R n seeds out             the answer and the buffer that expanding leaves
 --     expandList g masks stop n seeds out     the same of the whole call: causes 1, 2, 3 and 5 come first
 use mathlib.Core.Bool.{Bool, true, false, _&&_}
 use mathlib.Core.List.{List, [], _∷_, _++_}
-use Prim.Native.Nat.{ℕ, suc, _+_, _-_}
+use Prim.Native.Nat.{ℕ, zero, suc, _+_, _-_}
 use lib.Dec.{eqb}
 use lib.ListN.{length}
 use Rattle.refusal_causes.specs.declared.Cause.{Cause}
@@ -35,11 +36,16 @@ abbrev pub isLast : List ℕ → Bool
 isLast [] = true
 isLast (s ∷ ss) = false
 
+-- A last seed with nothing left to deliver adds 0: cause 14 with what the seeds before it delivered.
+unfoldable pub adding : Machine → ℕ → ℕ → ℕ → Walk → Walk
+adding M done s zero w = failed (Total done)
+adding M done s (suc m) w = after (slicesOf M (suc m) s) w
+
 unfoldable pub walk : Machine → Rules → ℕ → ℕ → ℕ → List ℕ → Walk
 walk M R n place done [] = ran []
 walk M R n place done (s ∷ ss) = elim (delivers M R (R .live done) place (R .openEnd && isLast ss) (n - done) s) [
   | fails c ↦ failed c
-  | gives m ↦ after (slicesOf M m s) (walk M R n (suc place) (done + m) ss)
+  | gives m ↦ adding M done s m (walk M R n (suc place) (done + m) ss)
 ]
 
 -- A list with no seed is cause 14 with 0.

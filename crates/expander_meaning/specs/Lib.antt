@@ -1,4 +1,4 @@
 -- The run of one seed, and the expanding of a list.
 pub mod Run
 pub mod Expanding
-pub mod Ready
+pub mod Sized

@@ -10,13 +10,13 @@ ghost use lib.ListN.{length};
 ghost use Rattle.machine_settings.specs.Machine.{machine};
 ghost use Rattle.theory_covering.specs.Rules.{rules};
 ghost use Rattle.expander_meaning.specs.Expanding.{walk};
-ghost use Rattle.expander_meaning.specs.Ready.{Ready};
+ghost use Rattle.expander_meaning.specs.Sized.{Sized};
 ghost use Rattle.expander_total.specs.Tally.{tally};
 
 // How many slices the seeds deliver, or the cause of the first refused seed: seeds are tested one after another by 10, 11, 12.
 // An inner function: its callers show that register and chains fit words, and that there are at most 2,048 seeds, so that the total is a number of the machine.
 pub fn total_of(settings: Settings, masks: &[u64], stop: TestSlice, seeds: &[u64]) -> Written
-    requires ready { ⌜ Ready settings (now masks) ⌝ }
+    requires ready { ⌜ Sized settings (now masks) ⌝ }
     requires seeds { ⌜ length (now seeds) ≤ 2048 ⌝ }
     ensures { λ r. ⌜ ((n : ℕ) → r ≡ tally 0 (walk (machine settings (now (masks .entry))) (rules settings stop) n 0 0 (now (seeds .entry)))) ⌝ }
 {

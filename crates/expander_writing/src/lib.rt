@@ -10,7 +10,7 @@ ghost use lib.Seq.{sets};
 ghost use Rattle.machine_settings.specs.Machine.{machine};
 ghost use Rattle.theory_covering.specs.Rules.{rules};
 ghost use Rattle.expander_meaning.specs.Expanding.{ran, walk};
-ghost use Rattle.expander_meaning.specs.Ready.{Ready};
+ghost use Rattle.expander_meaning.specs.Sized.{Sized};
 ghost use Rattle.expander_writing.specs.Until.{untilStop};
 
 // Writes the slices of a seed up to its stop, from a place of the buffer on and as far as the buffer goes; answers the place behind them.
@@ -22,7 +22,7 @@ fn write_run(
     at: usize,
     out: &mut [u64],
 ) -> usize
-    requires ready { ⌜ Ready settings (now masks) ⌝ }
+    requires ready { ⌜ Sized settings (now masks) ⌝ }
     requires place { ⌜ at ≤ length (now out) ⌝ }
     ensures place { λ r. ⌜ r ≡ at + length (untilStop (machine settings (now (masks .entry))) stop (length (now (out .entry)) - at) seed) ⌝ }
     ensures buffer { λ _. ⌜ now (out .exit) ≡ sets (now (out .entry)) at (untilStop (machine settings (now (masks .entry))) stop (length (now (out .entry)) - at) seed) ⌝ }
@@ -48,7 +48,7 @@ fn write_run(
 // Writes the slices of all seeds, one behind the other.
 // An inner function: its callers show that register and chains fit words. Where a seed is refused or the buffer is too short, nothing is promised of the entries: its caller has ruled that out.
 pub fn write_all(settings: Settings, masks: &[u64], stop: TestSlice, seeds: &[u64], out: &mut [u64])
-    requires { ⌜ Ready settings (now masks) ⌝ }
+    requires { ⌜ Sized settings (now masks) ⌝ }
     ensures { λ _. ⌜ ((n : ℕ) (vs : List ℕ) → walk (machine settings (now (masks .entry))) (rules settings stop) n 0 0 (now (seeds .entry)) ≡ ran vs → length vs ≤ length (now (out .entry)) → now (out .exit) ≡ sets (now (out .entry)) 0 vs) ⌝ }
 {
     let mut at = 0;

@@ -1,4 +1,5 @@
 // The entries on numbers: a step, a slice, the comparisons, and the stop slice with its counts.
+use face_values::Settings;
 use machine_register::Register;
 use machine_slices::TestSlice;
 use stop_slice::Formed;
@@ -22,11 +23,14 @@ pub struct StopAnswer {
 }
 
 // One step of the register from a state; of more than 64 cells the first 64 count.
-pub fn step(cells: usize, taps: u64, state: u64) -> u64
-    ensures { λ r. ⌜ r ≡ stepOf (registerOf cells taps) state ⌝ }
+pub fn step(settings: Settings, state: u64) -> u64
+    ensures { λ r. ⌜ r ≡ stepOf (registerOf settings) state ⌝ }
 {
-    let r = Register { cells, taps };
-    r.step(state)
+    let register = Register {
+        cells: settings.cells,
+        taps: settings.taps,
+    };
+    register.step(state)
 }
 
 // The slice of a state; of more than 64 masks the first 64 count.

@@ -2,22 +2,21 @@
 use face_answers::Answer;
 use face_answers::CubesAnswer;
 use face_answers::SeedAnswer;
+use face_values::Settings;
 use machine_slices::TestSlice;
 ghost use mathlib.Core.Path.{_≡_};
-ghost use Rattle.machine_settings.specs.Machine.{base};
 ghost use Rattle.expander_meaning.specs.Expanding.{expandList};
 ghost use Rattle.theory_covering.specs.Single.{windowSeed, WindowMeaning};
 ghost use Rattle.encoder_meaning.specs.Encoding.{encodeSet};
 ghost use Rattle.encoder_cubes.specs.Cubes.{encodeCubes};
 ghost use Rattle.encoder_meaning.specs.Meaning.{SetMeaning};
 ghost use Rattle.encoder_cubes.specs.Meaning.{CubesMeaning};
-ghost use Rattle.face_values.specs.Values.{testSliceOf};
+ghost use Rattle.face_values.specs.Values.{settingsOf, testSliceOf};
 ghost use Rattle.face_answers.specs.Answers.{answerOf, cubesAnswerOf, seedAnswerOf};
 
 // The slices of a seed list, written into the buffer: causes 1, 2, 3, 5, then 10, 11, 12 of the first refused seed, then 14, then 9.
 pub fn expand(
-    cells: usize,
-    taps: u64,
+    settings: Settings,
     masks: &[u64],
     stop_specified: u64,
     stop_bits: u64,
@@ -25,42 +24,42 @@ pub fn expand(
     seeds: &[u64],
     out: &mut [u64],
 ) -> Answer
-    ensures answer { λ r. ⌜ r ≡ answerOf (expandList (base cells taps) (now (masks .entry)) (testSliceOf «stop_specified» «stop_bits») slices (now (seeds .entry)) (now (out .entry)) .answer) ⌝ }
-    ensures buffer { λ _. ⌜ now (out .exit) ≡ expandList (base cells taps) (now (masks .entry)) (testSliceOf «stop_specified» «stop_bits») slices (now (seeds .entry)) (now (out .entry)) .buffer ⌝ }
+    ensures answer { λ r. ⌜ r ≡ answerOf (expandList (settingsOf settings) (now (masks .entry)) (testSliceOf «stop_specified» «stop_bits») slices (now (seeds .entry)) (now (out .entry)) .answer) ⌝ }
+    ensures buffer { λ _. ⌜ now (out .exit) ≡ expandList (settingsOf settings) (now (masks .entry)) (testSliceOf «stop_specified» «stop_bits») slices (now (seeds .entry)) (now (out .entry)) .buffer ⌝ }
 {
     let stop = TestSlice {
         specified: stop_specified,
         bits: stop_bits,
     };
-    let written = expander_list::expand_list(cells, taps, masks, stop, slices, seeds, out);
+    let given = face_values::settings_of(settings);
+    let written = expander_list::expand_list(given, masks, stop, slices, seeds, out);
     face_answers::answer_of(written)
 }
 
 // The seed of a window: causes 1 to 5, then 7.
 pub fn window_seed(
-    cells: usize,
-    taps: u64,
+    settings: Settings,
     masks: &[u64],
     stop_specified: u64,
     stop_bits: u64,
     specified: &[u64],
     bits: &[u64],
 ) -> SeedAnswer
-    ensures answer { λ r. ⌜ r ≡ seedAnswerOf (windowSeed (base cells taps) (now (masks .entry)) (testSliceOf «stop_specified» «stop_bits») (now (specified .entry)) (now (bits .entry))) ⌝ }
-    ensures meaning { λ _. ⌜ WindowMeaning (base cells taps) (now (masks .entry)) (testSliceOf «stop_specified» «stop_bits») (now (specified .entry)) (now (bits .entry)) (windowSeed (base cells taps) (now (masks .entry)) (testSliceOf «stop_specified» «stop_bits») (now (specified .entry)) (now (bits .entry))) ⌝ }
+    ensures answer { λ r. ⌜ r ≡ seedAnswerOf (windowSeed (settingsOf settings) (now (masks .entry)) (testSliceOf «stop_specified» «stop_bits») (now (specified .entry)) (now (bits .entry))) ⌝ }
+    ensures meaning { λ _. ⌜ WindowMeaning (settingsOf settings) (now (masks .entry)) (testSliceOf «stop_specified» «stop_bits») (now (specified .entry)) (now (bits .entry)) (windowSeed (settingsOf settings) (now (masks .entry)) (testSliceOf «stop_specified» «stop_bits») (now (specified .entry)) (now (bits .entry))) ⌝ }
 {
     let stop = TestSlice {
         specified: stop_specified,
         bits: stop_bits,
     };
-    let seed = window_single::window_seed(cells, taps, masks, stop, specified, bits);
+    let given = face_values::settings_of(settings);
+    let seed = window_single::window_seed(given, masks, stop, specified, bits);
     face_answers::seed_answer_of(seed)
 }
 
 // The seeds of a set with its stop slice, written into the buffer: causes 1 to 5, then 8, then 9.
 pub fn encode_set(
-    cells: usize,
-    taps: u64,
+    settings: Settings,
     masks: &[u64],
     stop_specified: u64,
     stop_bits: u64,
@@ -68,32 +67,33 @@ pub fn encode_set(
     bits: &[u64],
     out: &mut [u64],
 ) -> Answer
-    ensures answer { λ r. ⌜ r ≡ answerOf (encodeSet (base cells taps) (now (masks .entry)) (testSliceOf «stop_specified» «stop_bits») (now (specified .entry)) (now (bits .entry)) (now (out .entry)) .answer) ⌝ }
-    ensures buffer { λ _. ⌜ now (out .exit) ≡ encodeSet (base cells taps) (now (masks .entry)) (testSliceOf «stop_specified» «stop_bits») (now (specified .entry)) (now (bits .entry)) (now (out .entry)) .buffer ⌝ }
-    ensures meaning { λ _. ⌜ SetMeaning (base cells taps) (now (masks .entry)) (testSliceOf «stop_specified» «stop_bits») (now (specified .entry)) (now (bits .entry)) (now (out .entry)) (encodeSet (base cells taps) (now (masks .entry)) (testSliceOf «stop_specified» «stop_bits») (now (specified .entry)) (now (bits .entry)) (now (out .entry))) ⌝ }
+    ensures answer { λ r. ⌜ r ≡ answerOf (encodeSet (settingsOf settings) (now (masks .entry)) (testSliceOf «stop_specified» «stop_bits») (now (specified .entry)) (now (bits .entry)) (now (out .entry)) .answer) ⌝ }
+    ensures buffer { λ _. ⌜ now (out .exit) ≡ encodeSet (settingsOf settings) (now (masks .entry)) (testSliceOf «stop_specified» «stop_bits») (now (specified .entry)) (now (bits .entry)) (now (out .entry)) .buffer ⌝ }
+    ensures meaning { λ _. ⌜ SetMeaning (settingsOf settings) (now (masks .entry)) (testSliceOf «stop_specified» «stop_bits») (now (specified .entry)) (now (bits .entry)) (now (out .entry)) (encodeSet (settingsOf settings) (now (masks .entry)) (testSliceOf «stop_specified» «stop_bits») (now (specified .entry)) (now (bits .entry)) (now (out .entry))) ⌝ }
 {
     let stop = TestSlice {
         specified: stop_specified,
         bits: stop_bits,
     };
-    let written = encoder_sets::encode_set(cells, taps, masks, stop, specified, bits, out);
+    let given = face_values::settings_of(settings);
+    let written = encoder_sets::encode_set(given, masks, stop, specified, bits, out);
     face_answers::answer_of(written)
 }
 
 // The stop slice of the steps and the seeds of cubes, written into the buffer: causes 1 to 4, then 6, then 8, then 9.
 pub fn encode_cubes(
-    cells: usize,
-    taps: u64,
+    settings: Settings,
     masks: &[u64],
     depth: usize,
     specified: &[u64],
     bits: &[u64],
     out: &mut [u64],
 ) -> CubesAnswer
-    ensures answer { λ r. ⌜ r ≡ cubesAnswerOf (encodeCubes (base cells taps) (now (masks .entry)) depth (now (specified .entry)) (now (bits .entry)) (now (out .entry)) .answer) ⌝ }
-    ensures buffer { λ _. ⌜ now (out .exit) ≡ encodeCubes (base cells taps) (now (masks .entry)) depth (now (specified .entry)) (now (bits .entry)) (now (out .entry)) .buffer ⌝ }
-    ensures meaning { λ _. ⌜ CubesMeaning (base cells taps) (now (masks .entry)) depth (now (specified .entry)) (now (bits .entry)) (now (out .entry)) (encodeCubes (base cells taps) (now (masks .entry)) depth (now (specified .entry)) (now (bits .entry)) (now (out .entry))) ⌝ }
+    ensures answer { λ r. ⌜ r ≡ cubesAnswerOf (encodeCubes (settingsOf settings) (now (masks .entry)) depth (now (specified .entry)) (now (bits .entry)) (now (out .entry)) .answer) ⌝ }
+    ensures buffer { λ _. ⌜ now (out .exit) ≡ encodeCubes (settingsOf settings) (now (masks .entry)) depth (now (specified .entry)) (now (bits .entry)) (now (out .entry)) .buffer ⌝ }
+    ensures meaning { λ _. ⌜ CubesMeaning (settingsOf settings) (now (masks .entry)) depth (now (specified .entry)) (now (bits .entry)) (now (out .entry)) (encodeCubes (settingsOf settings) (now (masks .entry)) depth (now (specified .entry)) (now (bits .entry)) (now (out .entry))) ⌝ }
 {
-    let encoded = encoder_cubes::encode_cubes(cells, taps, masks, depth, specified, bits, out);
+    let given = face_values::settings_of(settings);
+    let encoded = encoder_cubes::encode_cubes(given, masks, depth, specified, bits, out);
     face_answers::cubes_answer_of(encoded)
 }

@@ -1,2 +1,3 @@
--- The laws of slices with their stop slice.
+-- The laws of cause 3, and of slices with their stop slice.
+pub mod Limited
 pub mod Stopped

@@ -1,5 +1,5 @@
 -- What the checks of slices with their stop slice leave, whoever judges how many slices there are.
---     StoppedFormed bad ..     none of causes 1 to 5 holds, `bad` for cause 3; so there are at most 64 chains
+--     StoppedFormed bad ..     none of causes 1 to 5 holds, `bad` for cause 3; so there are at most 64 chains, and windows have at most 256 slices
 --     window-formed, set-formed     a window, and a set
 -- Assumes nothing.
 use mathlib.Core.Path.{_≡_}
@@ -13,16 +13,19 @@ use Rattle.machine_chains.specs.Chains.{badChains}
 use Rattle.machine_chains.proofs.Causes.{chains-within}
 use Rattle.machine_slices.specs.declared.TestSlice.{TestSlice}
 use Rattle.machine_slices.specs.Slices.{badSlices, badStop}
-use Rattle.refusal_lengths.specs.Lengths.{badWindow, badSet}
+use Rattle.refusal_lengths.specs.Lengths.{badLimit, badWindow, badSet}
 use Rattle.refusal_order.specs.Order.{judged}
 use Rattle.refusal_checks.specs.Calls.{stoppedFaults, windowFaults, setFaults}
 use Rattle.refusal_order.specs.declared.Verdict.the-variants.{WellFormed}
 use Rattle.refusal_order.proofs.Order.{formed-well}
+use Rattle.refusal_checks.proofs.Limited.{limited-parts}
 
 pub record StoppedFormed (bad : Bool) (g : Settings) (masks : List ℕ) (st : TestSlice) (ps bs : List ℕ) : Type 0 where
   pub register : badRegister (g .cells) (g .taps) ≡ false
   pub chains : badChains (g .cells) masks ≡ false
   pub few : length masks ≤ 64
+  pub limit : badLimit (g .limit) ≡ false
+  pub most : g .limit ≤ 256
   pub lengths : bad ≡ false
   pub slices : badSlices (length masks) ps bs ≡ false
   pub stop : badStop (length masks) st ≡ false
@@ -36,7 +39,9 @@ module _ (g : Settings) (masks : List ℕ) (st : TestSlice) (ps bs : List ℕ) w
         register = f .register;
         chains = f .chains;
         few = chains-within (g .cells) masks (f .chains) .1;
-        lengths = f .lengths;
+        limit = limited-parts g bad (f .lengths) .0;
+        most = limited-parts g bad (f .lengths) .1;
+        lengths = limited-parts g bad (f .lengths) .2;
         slices = f .slices;
         stop = f .stop;
       }

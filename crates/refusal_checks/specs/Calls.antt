@@ -1,11 +1,12 @@
 -- Which of causes 1 to 5 hold for what each kind of call hands in (document 01, "Refusal sheet"). A call that lacks a part is not refused by its cause.
+--     limited          the limit of the settings, and the lengths of the call
 --     stoppedFaults    slices with their stop slice, whose number is judged by the caller
 --     windowFaults     a window with its stop slice
 --     setFaults        a set with its stop slice
 --     cubesFaults      a set that comes as cubes, without a stop slice
 --     stopFaults       a set whose stop slice is asked for
 --     listFaults       a seed list
-use mathlib.Core.Bool.{Bool, false}
+use mathlib.Core.Bool.{Bool, false, _||_}
 use mathlib.Core.List.{List}
 use Prim.Native.Nat.{ℕ}
 use lib.ListN.{length}
@@ -14,14 +15,18 @@ use Rattle.machine_register.specs.Register.{badRegister}
 use Rattle.machine_chains.specs.Chains.{badCount, badChains}
 use Rattle.machine_slices.specs.declared.TestSlice.{TestSlice}
 use Rattle.machine_slices.specs.Slices.{badSlices, badStop}
-use Rattle.refusal_lengths.specs.Lengths.{badWindow, badSet, badCubes, badList}
+use Rattle.refusal_lengths.specs.Lengths.{badLimit, badWindow, badSet, badCubes, badList}
 use Rattle.refusal_order.specs.declared.Faults.{Faults}
+
+-- Cause 3 of a call with settings.
+unfoldable pub limited : Settings → Bool → Bool
+limited g lengths = badLimit (g .limit) || lengths
 
 unfoldable pub stoppedFaults : Bool → Settings → List ℕ → TestSlice → List ℕ → List ℕ → Faults
 stoppedFaults lengths g masks stop specified bits = record {
   register = badRegister (g .cells) (g .taps);
   chains = badChains (g .cells) masks;
-  lengths = lengths;
+  lengths = limited g lengths;
   slices = badSlices (length masks) specified bits;
   stop = badStop (length masks) stop;
 }
@@ -36,7 +41,7 @@ unfoldable pub cubesFaults : Settings → List ℕ → ℕ → List ℕ → List
 cubesFaults g masks depth specified bits = record {
   register = badRegister (g .cells) (g .taps);
   chains = badChains (g .cells) masks;
-  lengths = badCubes depth (length specified);
+  lengths = limited g (badCubes depth (length specified));
   slices = badSlices (length masks) specified bits;
   stop = false;
 }
@@ -54,7 +59,7 @@ unfoldable pub listFaults : Settings → List ℕ → TestSlice → ℕ → ℕ 
 listFaults g masks stop slices seeds = record {
   register = badRegister (g .cells) (g .taps);
   chains = badChains (g .cells) masks;
-  lengths = badList slices seeds;
+  lengths = limited g (badList slices seeds);
   slices = false;
   stop = badStop (length masks) stop;
 }

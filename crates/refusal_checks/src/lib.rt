@@ -5,7 +5,17 @@ use refusal_order::Faults;
 use refusal_order::Verdict;
 ghost use mathlib.Core.Path.{_≡_};
 ghost use Rattle.refusal_order.specs.Order.{judged};
-ghost use Rattle.refusal_checks.specs.Calls.{stoppedFaults, windowFaults, setFaults, cubesFaults, listFaults, stopFaults};
+ghost use Rattle.refusal_checks.specs.Calls.{limited, stoppedFaults, windowFaults, setFaults, cubesFaults, listFaults, stopFaults};
+
+// Cause 3 of a call with settings: their limit, and the lengths of the call.
+fn bad_lengths(settings: Settings, lengths: bool) -> bool
+    ensures { λ r. ⌜ r ≡ limited settings lengths ⌝ }
+{
+    if refusal_lengths::bad_limit(settings.limit) {
+        return true;
+    }
+    lengths
+}
 
 // The checks of slices with their stop slice, once their number is judged.
 fn check_stopped(
@@ -22,7 +32,7 @@ fn check_stopped(
     refusal_order::judge(Faults {
         register: machine_register::bad_register(settings.cells, settings.taps),
         chains: machine_chains::bad_chains(settings.cells, masks),
-        lengths,
+        lengths: bad_lengths(settings, lengths),
         slices: machine_slices::bad_slices(chains, specified, bits),
         stop: machine_slices::bad_stop(chains, stop),
     })
@@ -82,7 +92,7 @@ pub fn check_cubes(
     refusal_order::judge(Faults {
         register: machine_register::bad_register(settings.cells, settings.taps),
         chains: machine_chains::bad_chains(settings.cells, masks),
-        lengths: refusal_lengths::bad_cubes(depth, specified.len()),
+        lengths: bad_lengths(settings, refusal_lengths::bad_cubes(depth, specified.len())),
         slices: machine_slices::bad_slices(chains, specified, bits),
         stop: false,
     })
@@ -115,7 +125,7 @@ pub fn check_list(
     refusal_order::judge(Faults {
         register: machine_register::bad_register(settings.cells, settings.taps),
         chains: machine_chains::bad_chains(settings.cells, masks),
-        lengths: refusal_lengths::bad_list(slices, seeds),
+        lengths: bad_lengths(settings, refusal_lengths::bad_list(slices, seeds)),
         slices: false,
         stop: machine_slices::bad_stop(chains, stop),
     })

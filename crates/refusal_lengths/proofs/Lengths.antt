@@ -1,7 +1,7 @@
 -- Cause 3, as the code tests it, one test after the other.
 --     cubes-depth, cubes-slices, cubes-rest     a set that comes as cubes
 --     list-slices, list-seeds                   a seed list
---     window-within, set-within, list-within     what is not refused by it: 1 to limit slices, 1 to 2,048 slices, at most 2,048 seeds
+--     limit-within, window-within, set-within, list-within     what is not refused by it: a limit of 1 to 256, 1 to limit slices, 1 to 2,048 slices, at most 2,048 seeds
 --     cubes-lengths                             what is not refused as cubes is not refused as a set
 -- Assumes nothing.
 use mathlib.Core.Path.{_≡_}
@@ -11,7 +11,7 @@ use lib.Dec.{ltb, eqb}
 use borrow.Author.Tests.{ltb-false, not-false}
 use Rattle.words_bounded.specs.Bounded.{within}
 use Rattle.words_bounded.proofs.Tests.{neither, within-yes}
-use Rattle.refusal_lengths.specs.Lengths.{badWindow, badSet, badCubes, badList}
+use Rattle.refusal_lengths.specs.Lengths.{badLimit, badWindow, badSet, badCubes, badList}
 
 module _ (depth n : ℕ) where
   pub cubes-depth : within 1 256 depth ≡ false → badCubes depth n ≡ true
@@ -29,6 +29,10 @@ module _ (depth n : ℕ) where
   pub cubes-rest : within 1 256 depth ≡ true → badSet n ≡ false → badCubes depth n ≡ not (eqb (n % depth) 0)
   unfolding badCubes
   cubes-rest w b = rw (w, b)
+
+pub limit-within : (limit : ℕ) → badLimit limit ≡ false → (1 ≤ limit) × (limit ≤ 256)
+unfolding badLimit
+limit-within limit b = within-yes 1 256 limit (not-false (within 1 256 limit) b)
 
 pub window-within : (limit n : ℕ) → badWindow limit n ≡ false → (1 ≤ n) × (n ≤ limit)
 unfolding badWindow

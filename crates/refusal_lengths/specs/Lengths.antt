@@ -1,6 +1,8 @@
 -- Lengths (document 01, cause 3 of its refusal sheet).
 --     mostSlices            the most slices of a set, and the most seeds of a list
 --     mostDepth             the greatest depth of a cube
+--     mostLimit             the greatest limit of a window
+--     badLimit limit        the limit of a window
 --     badWindow limit n     a window of n slices
 --     badSet n              a set of n slices
 --     badCubes depth n      a set of n slices that comes as cubes of depth slices
@@ -15,6 +17,13 @@ mostSlices = 2048
 
 abbrev pub mostDepth : ℕ
 mostDepth = 256
+
+abbrev pub mostLimit : ℕ
+mostLimit = 256
+
+-- The limit of a window not 1 to 256.
+unfoldable pub badLimit : ℕ → Bool
+badLimit limit = not (within 1 mostLimit limit)
 
 -- Window length not 1 to the limit, 256 in the base.
 unfoldable pub badWindow : ℕ → ℕ → Bool

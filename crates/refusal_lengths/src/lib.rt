@@ -1,11 +1,20 @@
 // Lengths (document 01, cause 3 of its refusal sheet).
 ghost use mathlib.Core.Path.{_≡_};
-ghost use Rattle.refusal_lengths.specs.Lengths.{badWindow, badSet, badCubes, badList};
+ghost use Rattle.refusal_lengths.specs.Lengths.{badLimit, badWindow, badSet, badCubes, badList};
 
 // The most slices of a set, and the most seeds of a list.
 pub const MOST_SLICES: usize = 2048;
 // The greatest depth.
 pub const MOST_DEPTH: usize = 256;
+// The greatest limit of a window.
+pub const MOST_LIMIT: usize = 256;
+
+// Cause 3 of the settings: the limit of a window not 1 to 256.
+pub fn bad_limit(limit: usize) -> bool
+    ensures { λ r. ⌜ r ≡ badLimit limit ⌝ }
+{
+    !words_bounded::within(1, MOST_LIMIT, limit)
+}
 
 // Cause 3 of a window: its length not 1 to the limit.
 pub fn bad_window(limit: usize, slices: usize) -> bool

@@ -22,7 +22,7 @@ use Rattle.search_pivot.specs.Pivot.{pivot, without}
 use Rattle.search_space.specs.Space.{Rising}
 use Rattle.search_space.proofs.Members.{Among, among-lowest, lowest-among}
 use Rattle.search_pivot.proofs.Pivot.{no-pivot, kept-alike, alike-kept, pivot-moves, pivot-parity, without-same, without-shorter, rising-kept, rising-moved}
-use Rattle.search_rows.specs.Clauses.{row, reads, shown, clear}
+use Rattle.search_rows.specs.Rows.{row, reads, shown, clear}
 use Rattle.search_rows.specs.declared.Pattern.{Pattern}
 use Rattle.search_rows.proofs.Reading.{row-fits, row-length, row-at, reads-alike, clear-at}
 use Rattle.search_found.specs.Lower.{reached}

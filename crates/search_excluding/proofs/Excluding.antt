@@ -18,7 +18,7 @@ use Rattle.words_gf2.proofs.Digits.{digit-lt, digit-none, digit-and, digit-or}
 use Rattle.words_gf2.proofs.Xor.{digit-xor}
 use Rattle.search_members.specs.Members.{pick}
 use Rattle.search_lanes.proofs.Lanes.{all-lanes}
-use Rattle.search_rows.specs.Clauses.{clear}
+use Rattle.search_rows.specs.Rows.{clear}
 use Rattle.search_rows.specs.Leaf.{Matched, AllMatched, Filled}
 use Rattle.search_excluding.specs.Excluding.{Kills}
 use Rattle.search_rows.specs.declared.Pattern.{Pattern}

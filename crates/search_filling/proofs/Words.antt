@@ -23,7 +23,7 @@ use Rattle.search_members.specs.Members.{pick}
 use Rattle.search_members.proofs.Numbers.{pick-split}
 use Rattle.search_lanes.specs.Lanes.{readings}
 use Rattle.search_lanes.proofs.Lanes.{reading-lane, all-lanes}
-use Rattle.search_rows.specs.Clauses.{row, reads, shown, clear}
+use Rattle.search_rows.specs.Rows.{row, reads, shown, clear}
 use Rattle.search_filling.specs.Columns.{Reads, RowFilled}
 use Rattle.search_rows.specs.Leaf.{Matched, AllMatched, Filled}
 use Rattle.search_rows.specs.declared.Pattern.{Pattern}

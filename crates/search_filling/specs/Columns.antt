@@ -8,7 +8,7 @@ use Prim.Native.Nat.{ℕ, _+_, _*_, _%_, _<_}
 use Rattle.words_gf2.specs.Words.{digit, odd}
 use Rattle.search_members.specs.Members.{pick}
 use Rattle.search_rows.specs.declared.Pattern.{Pattern}
-use Rattle.search_rows.specs.Clauses.{shown}
+use Rattle.search_rows.specs.Rows.{shown}
 use Rattle.search_rows.specs.Leaf.{AllMatched}
 
 abbrev pub Reads : ℕ → List ℕ → ℕ → ℕ → ℕ → ℕ → Type 0

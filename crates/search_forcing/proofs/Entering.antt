@@ -11,7 +11,7 @@ use lib.ListN.{length, take, drop}
 use Rattle.search_space.specs.declared.Space.{Space}
 use Rattle.search_restrict.proofs.Restricting.{restricted-left}
 use Rattle.search_rows.specs.declared.Pattern.{Pattern}
-use Rattle.search_rows.specs.Clauses.{row}
+use Rattle.search_rows.specs.Rows.{row}
 use Rattle.search_showing.specs.Showing.{across}
 use Rattle.search_forcing.specs.Forcing.{forced, forcedVectors, left, narrowed}
 use Rattle.search_showing.specs.declared.Shows.{Shows}

@@ -18,7 +18,7 @@ use Rattle.search_space.specs.Space.{Rising, Member}
 use Rattle.search_space.proofs.Members.{among-is, is-among}
 use Rattle.search_restrict.proofs.Restricting.{restrict-sound, restrict-complete, restrict-rising}
 use Rattle.search_rows.specs.declared.Pattern.{Pattern}
-use Rattle.search_rows.specs.Clauses.{row, shown}
+use Rattle.search_rows.specs.Rows.{row, shown}
 use Rattle.search_showing.specs.Showing.{across}
 use Rattle.search_showing.specs.declared.Shows.{Shows}
 use Rattle.search_showing.specs.declared.Shows.the-variants.{Always, Unless, Neither}

@@ -8,7 +8,7 @@ use Rattle.search_space.specs.declared.Space.{Space}
 use Rattle.search_restrict.specs.Restricted.{restricted}
 use Rattle.search_pivot.specs.Pivot.{without}
 use Rattle.search_rows.specs.declared.Pattern.{Pattern}
-use Rattle.search_rows.specs.Clauses.{row}
+use Rattle.search_rows.specs.Rows.{row}
 use Rattle.search_showing.specs.Showing.{across}
 use Rattle.search_showing.specs.declared.Shows.{Shows}
 use Rattle.search_showing.specs.declared.Shows.the-variants.{Always, Unless, Neither}

@@ -10,7 +10,7 @@ use Prim.Native.Nat.{ℕ}
 use Rattle.words_bounded.proofs.Tests.{both, and-yes}
 use Rattle.search_space.specs.Space.{among}
 use Rattle.search_space.proofs.Members.{Among, among-is, is-among}
-use Rattle.search_rows.specs.Clauses.{clear}
+use Rattle.search_rows.specs.Rows.{clear}
 use Rattle.search_rows.specs.declared.Pattern.{Pattern}
 use Rattle.search_found.specs.Lower.{lower}
 use Rattle.search_found.specs.Search.{lowestClear}

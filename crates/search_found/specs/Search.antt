@@ -7,7 +7,7 @@ use mathlib.Core.List.{List}
 use Prim.Native.Nat.{ℕ, _^_}
 use Rattle.words_bounded.specs.Bounded.{leastBelow}
 use Rattle.search_space.specs.Space.{among}
-use Rattle.search_rows.specs.Clauses.{clear}
+use Rattle.search_rows.specs.Rows.{clear}
 use Rattle.search_rows.specs.declared.Pattern.{Pattern}
 use Rattle.search_found.specs.declared.Found.{Found}
 use Rattle.search_found.specs.declared.Found.the-variants.{State, Nothing}

@@ -12,7 +12,7 @@ use native.Mathlib.Omega.{arith}
 use Rattle.words_bounded.specs.Bounded.{leastBelow, NoneBelow}
 use Rattle.words_bounded.proofs.Search.{LeastIs, least-is, least-of, none-of}
 use Rattle.words_bounded.proofs.Tests.{clash, fails}
-use Rattle.search_rows.specs.Clauses.{shown, clear}
+use Rattle.search_rows.specs.Rows.{shown, clear}
 use Rattle.search_rows.specs.First.{firstShown}
 use Rattle.search_rows.specs.declared.Pattern.{Pattern}
 use Rattle.search_rows.proofs.Reading.{clear-at, none-clear}

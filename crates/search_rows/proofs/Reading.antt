@@ -20,7 +20,7 @@ use borrow.Author.Tests.{eq-eqb, ne-eqb, not-true}
 use Rattle.words_bounded.specs.Bounded.{NoneBelow}
 use Rattle.words_bounded.proofs.Tests.{both, and-yes}
 use Rattle.words_gf2.specs.Words.{odd}
-use Rattle.search_rows.specs.Clauses.{row, reads, shown, clear}
+use Rattle.search_rows.specs.Rows.{row, reads, shown, clear}
 use Rattle.search_rows.specs.declared.Pattern.{Pattern}
 
 pub row-fits : (t m k n : ℕ) → t < m → m * k ≤ n → t * k + k ≤ n

@@ -4,7 +4,7 @@ use mathlib.Core.Option.{Option·getD}
 use mathlib.Core.List.{List}
 use Prim.Native.Nat.{ℕ}
 use Rattle.words_bounded.specs.Bounded.{leastBelow}
-use Rattle.search_rows.specs.Clauses.{shown}
+use Rattle.search_rows.specs.Rows.{shown}
 use Rattle.search_rows.specs.declared.Pattern.{Pattern}
 
 unfoldable pub firstShown : Pattern → List ℕ → ℕ → ℕ → ℕ

@@ -10,7 +10,7 @@ use Prim.Native.Nat.{ℕ, _+_, _*_, _%_, _≤_, _<_}
 use lib.ListN.{getD, length}
 use Rattle.words_gf2.specs.Words.{digit}
 use Rattle.search_members.specs.Members.{pick}
-use Rattle.search_rows.specs.Clauses.{clear}
+use Rattle.search_rows.specs.Rows.{clear}
 use Rattle.search_rows.specs.declared.Pattern.{Pattern}
 
 pub record LeafSized (p : Pattern) (f : ℕ) : Type 0 where

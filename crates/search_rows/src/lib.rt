@@ -2,7 +2,7 @@
 ghost use mathlib.Core.Path.{_≡_};
 ghost use Prim.Native.Nat.{_+_, _*_, _≤_};
 ghost use lib.ListN.{length};
-ghost use Rattle.search_rows.specs.Clauses.{shown as shownOf};
+ghost use Rattle.search_rows.specs.Rows.{shown as shownOf};
 ghost use Rattle.search_rows.specs.First.{firstShown};
 
 // The positions of a pattern, which are the columns of its table, and its bits there.

@@ -14,7 +14,7 @@ use lib.ListN.{getD, length, drop, drop-of-length-le}
 use borrow.Author.Tests.{eq-eqb, ne-eqb}
 use Rattle.words_gf2.specs.Words.{odd}
 use Rattle.search_pivot.specs.Pivot.{pivot}
-use Rattle.search_rows.specs.Clauses.{row}
+use Rattle.search_rows.specs.Rows.{row}
 use Rattle.search_rows.proofs.Reading.{row-length, row-rest}
 use Rattle.search_showing.specs.Showing.{across, column, together}
 use Rattle.search_showing.specs.declared.Shows.{Shows}

@@ -16,7 +16,7 @@ use Rattle.words_gf2.proofs.Parity.{odd-lt}
 use Rattle.search_pivot.specs.Pivot.{pivot}
 use Rattle.search_space.proofs.Members.{Among}
 use Rattle.search_pivot.proofs.Pivot.{no-pivot}
-use Rattle.search_rows.specs.Clauses.{reads}
+use Rattle.search_rows.specs.Rows.{reads}
 use Rattle.search_showing.specs.Showing.{across, column, together}
 use Rattle.search_showing.specs.declared.Shows.{Shows}
 use Rattle.search_showing.specs.declared.Shows.the-variants.{Always, Unless, Neither}

@@ -3,7 +3,7 @@ use search_rows::Pattern;
 ghost use mathlib.Core.Path.{_≡_};
 ghost use Prim.Native.Nat.{_+_, _*_, _≤_, _<_};
 ghost use lib.ListN.{length, take};
-ghost use Rattle.search_rows.specs.Clauses.{row as rowOf};
+ghost use Rattle.search_rows.specs.Rows.{row as rowOf};
 ghost use Rattle.search_showing.specs.Showing.{across as acrossOf, column as columnOf, together as togetherOf};
 
 // How the members of a space show a row: all do, or all do unless a mask reads a bit, or neither of the two is known.

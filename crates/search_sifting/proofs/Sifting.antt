@@ -21,7 +21,7 @@ use Rattle.search_space.specs.Space.{Rising}
 use Rattle.search_space.proofs.Members.{Among}
 use Rattle.search_members.proofs.Numbers.{pick-among, among-pick, pick-rises}
 use Rattle.search_lanes.proofs.Lanes.{all-lanes}
-use Rattle.search_rows.specs.Clauses.{clear}
+use Rattle.search_rows.specs.Rows.{clear}
 use Rattle.search_found.specs.Lower.{lower, reached}
 use Rattle.search_found.specs.Search.{lowestClear}
 use Rattle.search_sifting.specs.Clear.{FirstClear}

@@ -6,7 +6,7 @@ use mathlib.Core.List.{List}
 use Prim.Native.Nat.{ℕ, _+_, _<_}
 use Rattle.search_members.specs.Members.{pick}
 use Rattle.search_rows.specs.declared.Pattern.{Pattern}
-use Rattle.search_rows.specs.Clauses.{clear}
+use Rattle.search_rows.specs.Rows.{clear}
 
 pub record FirstClear (p : Pattern) (table : List ℕ) (m x : ℕ) (vs : List ℕ) (n i : ℕ) : Type 0 where
   pub before : (j : ℕ) → j < i → clear p table m (pick x vs (n + j)) ≡ false

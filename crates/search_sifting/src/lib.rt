@@ -8,7 +8,7 @@ ghost use lib.ListN.{length, take};
 ghost use Rattle.words_gf2.specs.Words.{digit};
 ghost use Rattle.search_members.specs.Members.{pick};
 ghost use Rattle.search_space.specs.Space.{Rising};
-ghost use Rattle.search_rows.specs.Clauses.{clear};
+ghost use Rattle.search_rows.specs.Rows.{clear};
 ghost use Rattle.search_rows.specs.Leaf.{Filled, LeafSized};
 ghost use Rattle.search_found.specs.Search.{lowestClear};
 ghost use Rattle.search_found.specs.Lower.{lower};

@@ -4,10 +4,10 @@ use face_answers::CubesAnswer;
 use face_answers::SeedAnswer;
 use face_answers::TextAnswer;
 use face_numbers::StopAnswer;
+use face_values::Settings;
 ghost use mathlib.Core.Path.{_≡_};
 ghost use lib.ListN.{take};
 ghost use Rattle.machine_register.specs.Register.{stepOf};
-ghost use Rattle.machine_settings.specs.Machine.{base};
 ghost use Rattle.machine_chains.specs.Chains.{slice as sliceOf};
 ghost use Rattle.machine_slices.specs.Slices.{agrees, shows};
 ghost use Rattle.refusal_order.specs.Order.{judged};
@@ -22,17 +22,17 @@ ghost use Rattle.encoder_meaning.specs.Meaning.{SetMeaning};
 ghost use Rattle.encoder_cubes.specs.Meaning.{CubesMeaning};
 ghost use Rattle.text_encode.specs.EncodeText.{encodeCall};
 ghost use Rattle.text_expand.specs.ExpandText.{expandCall};
-ghost use Rattle.face_values.specs.Values.{registerOf, testSliceOf};
+ghost use Rattle.face_values.specs.Values.{registerOf, settingsOf, testSliceOf};
 ghost use Rattle.face_numbers.specs.Stop.{stopAnswerOf};
 ghost use Rattle.face_answers.specs.Answers.{answerOf, cubesAnswerOf, seedAnswerOf, textAnswerOf};
 ghost use Rattle.face_checks.specs.Verdicts.{numberOf};
 
 // One step of the register from a state; of more than 64 cells the first 64 count.
 #[no_mangle]
-pub extern "C" fn seeds_step(cells: usize, taps: u64, state: u64) -> u64
-    ensures { λ r. ⌜ r ≡ stepOf (registerOf cells taps) state ⌝ }
+pub extern "C" fn seeds_step(settings: Settings, state: u64) -> u64
+    ensures { λ r. ⌜ r ≡ stepOf (registerOf settings) state ⌝ }
 {
-    face_numbers::step(cells, taps, state)
+    face_numbers::step(settings, state)
 }
 
 // The slice of a state; of more than 64 masks the first 64 count.
@@ -62,64 +62,45 @@ pub extern "C" fn seeds_shows(stop_specified: u64, stop_bits: u64, slice: u64) -
 // The number of the first of causes 1 to 5 that refuses a window, or 0.
 #[no_mangle]
 pub extern "C" fn seeds_check_window(
-    cells: usize,
-    taps: u64,
+    settings: Settings,
     masks: &[u64],
     stop_specified: u64,
     stop_bits: u64,
     specified: &[u64],
     bits: &[u64],
 ) -> usize
-    ensures { λ r. ⌜ r ≡ numberOf (judged (windowFaults (base cells taps) (now (masks .entry)) (testSliceOf «stop_specified» «stop_bits») (now (specified .entry)) (now (bits .entry)))) ⌝ }
+    ensures { λ r. ⌜ r ≡ numberOf (judged (windowFaults (settingsOf settings) (now (masks .entry)) (testSliceOf «stop_specified» «stop_bits») (now (specified .entry)) (now (bits .entry)))) ⌝ }
 {
-    face_checks::check_window(
-        cells,
-        taps,
-        masks,
-        stop_specified,
-        stop_bits,
-        specified,
-        bits,
-    )
+    face_checks::check_window(settings, masks, stop_specified, stop_bits, specified, bits)
 }
 
 // The number of the first of causes 1 to 5 that refuses a set with its stop slice, or 0.
 #[no_mangle]
 pub extern "C" fn seeds_check_set(
-    cells: usize,
-    taps: u64,
+    settings: Settings,
     masks: &[u64],
     stop_specified: u64,
     stop_bits: u64,
     specified: &[u64],
     bits: &[u64],
 ) -> usize
-    ensures { λ r. ⌜ r ≡ numberOf (judged (setFaults (base cells taps) (now (masks .entry)) (testSliceOf «stop_specified» «stop_bits») (now (specified .entry)) (now (bits .entry)))) ⌝ }
+    ensures { λ r. ⌜ r ≡ numberOf (judged (setFaults (settingsOf settings) (now (masks .entry)) (testSliceOf «stop_specified» «stop_bits») (now (specified .entry)) (now (bits .entry)))) ⌝ }
 {
-    face_checks::check_set(
-        cells,
-        taps,
-        masks,
-        stop_specified,
-        stop_bits,
-        specified,
-        bits,
-    )
+    face_checks::check_set(settings, masks, stop_specified, stop_bits, specified, bits)
 }
 
 // The number of the first of causes 1 to 4 that refuses a set that comes as cubes, or 0.
 #[no_mangle]
 pub extern "C" fn seeds_check_cubes(
-    cells: usize,
-    taps: u64,
+    settings: Settings,
     masks: &[u64],
     depth: usize,
     specified: &[u64],
     bits: &[u64],
 ) -> usize
-    ensures { λ r. ⌜ r ≡ numberOf (judged (cubesFaults (base cells taps) (now (masks .entry)) depth (now (specified .entry)) (now (bits .entry)))) ⌝ }
+    ensures { λ r. ⌜ r ≡ numberOf (judged (cubesFaults (settingsOf settings) (now (masks .entry)) depth (now (specified .entry)) (now (bits .entry)))) ⌝ }
 {
-    face_checks::check_cubes(cells, taps, masks, depth, specified, bits)
+    face_checks::check_cubes(settings, masks, depth, specified, bits)
 }
 
 // The number of the first of causes 2 to 4 that refuses a set whose stop slice is asked for, or 0.
@@ -133,17 +114,16 @@ pub extern "C" fn seeds_check_stop(chains: usize, specified: &[u64], bits: &[u64
 // The number of the first of causes 1, 2, 3 and 5 that refuses a seed list before its seeds are run, or 0.
 #[no_mangle]
 pub extern "C" fn seeds_check_list(
-    cells: usize,
-    taps: u64,
+    settings: Settings,
     masks: &[u64],
     stop_specified: u64,
     stop_bits: u64,
     slices: usize,
     seeds: usize,
 ) -> usize
-    ensures { λ r. ⌜ r ≡ numberOf (judged (listFaults (base cells taps) (now (masks .entry)) (testSliceOf «stop_specified» «stop_bits») slices seeds)) ⌝ }
+    ensures { λ r. ⌜ r ≡ numberOf (judged (listFaults (settingsOf settings) (now (masks .entry)) (testSliceOf «stop_specified» «stop_bits») slices seeds)) ⌝ }
 {
-    face_checks::check_list(cells, taps, masks, stop_specified, stop_bits, slices, seeds)
+    face_checks::check_list(settings, masks, stop_specified, stop_bits, slices, seeds)
 }
 
 // How many test slices have the stop's bit at each position of the stop that is set; of two lists unequally long, the shorter counts. Under a stop slice with a bit that is not specified, none has.
@@ -170,8 +150,7 @@ pub extern "C" fn seeds_stop(chains: usize, specified: &[u64], bits: &[u64]) -> 
 // The slices of a seed list, written into the buffer: causes 1, 2, 3, 5, then 10, 11, 12 of the first refused seed, then 14, then 9.
 #[no_mangle]
 pub extern "C" fn seeds_expand(
-    cells: usize,
-    taps: u64,
+    settings: Settings,
     masks: &[u64],
     stop_specified: u64,
     stop_bits: u64,
@@ -179,12 +158,11 @@ pub extern "C" fn seeds_expand(
     seeds: &[u64],
     out: &mut [u64],
 ) -> Answer
-    ensures answer { λ r. ⌜ r ≡ answerOf (expandList (base cells taps) (now (masks .entry)) (testSliceOf «stop_specified» «stop_bits») slices (now (seeds .entry)) (now (out .entry)) .answer) ⌝ }
-    ensures buffer { λ _. ⌜ now (out .exit) ≡ expandList (base cells taps) (now (masks .entry)) (testSliceOf «stop_specified» «stop_bits») slices (now (seeds .entry)) (now (out .entry)) .buffer ⌝ }
+    ensures answer { λ r. ⌜ r ≡ answerOf (expandList (settingsOf settings) (now (masks .entry)) (testSliceOf «stop_specified» «stop_bits») slices (now (seeds .entry)) (now (out .entry)) .answer) ⌝ }
+    ensures buffer { λ _. ⌜ now (out .exit) ≡ expandList (settingsOf settings) (now (masks .entry)) (testSliceOf «stop_specified» «stop_bits») slices (now (seeds .entry)) (now (out .entry)) .buffer ⌝ }
 {
     face_words::expand(
-        cells,
-        taps,
+        settings,
         masks,
         stop_specified,
         stop_bits,
@@ -197,33 +175,23 @@ pub extern "C" fn seeds_expand(
 // The seed of a window: causes 1 to 5, then 7.
 #[no_mangle]
 pub extern "C" fn seeds_window(
-    cells: usize,
-    taps: u64,
+    settings: Settings,
     masks: &[u64],
     stop_specified: u64,
     stop_bits: u64,
     specified: &[u64],
     bits: &[u64],
 ) -> SeedAnswer
-    ensures answer { λ r. ⌜ r ≡ seedAnswerOf (windowSeed (base cells taps) (now (masks .entry)) (testSliceOf «stop_specified» «stop_bits») (now (specified .entry)) (now (bits .entry))) ⌝ }
-    ensures meaning { λ _. ⌜ WindowMeaning (base cells taps) (now (masks .entry)) (testSliceOf «stop_specified» «stop_bits») (now (specified .entry)) (now (bits .entry)) (windowSeed (base cells taps) (now (masks .entry)) (testSliceOf «stop_specified» «stop_bits») (now (specified .entry)) (now (bits .entry))) ⌝ }
+    ensures answer { λ r. ⌜ r ≡ seedAnswerOf (windowSeed (settingsOf settings) (now (masks .entry)) (testSliceOf «stop_specified» «stop_bits») (now (specified .entry)) (now (bits .entry))) ⌝ }
+    ensures meaning { λ _. ⌜ WindowMeaning (settingsOf settings) (now (masks .entry)) (testSliceOf «stop_specified» «stop_bits») (now (specified .entry)) (now (bits .entry)) (windowSeed (settingsOf settings) (now (masks .entry)) (testSliceOf «stop_specified» «stop_bits») (now (specified .entry)) (now (bits .entry))) ⌝ }
 {
-    face_words::window_seed(
-        cells,
-        taps,
-        masks,
-        stop_specified,
-        stop_bits,
-        specified,
-        bits,
-    )
+    face_words::window_seed(settings, masks, stop_specified, stop_bits, specified, bits)
 }
 
 // The seeds of a set with its stop slice, written into the buffer: causes 1 to 5, then 8, then 9.
 #[no_mangle]
 pub extern "C" fn seeds_encode_set(
-    cells: usize,
-    taps: u64,
+    settings: Settings,
     masks: &[u64],
     stop_specified: u64,
     stop_bits: u64,
@@ -231,13 +199,12 @@ pub extern "C" fn seeds_encode_set(
     bits: &[u64],
     out: &mut [u64],
 ) -> Answer
-    ensures answer { λ r. ⌜ r ≡ answerOf (encodeSet (base cells taps) (now (masks .entry)) (testSliceOf «stop_specified» «stop_bits») (now (specified .entry)) (now (bits .entry)) (now (out .entry)) .answer) ⌝ }
-    ensures buffer { λ _. ⌜ now (out .exit) ≡ encodeSet (base cells taps) (now (masks .entry)) (testSliceOf «stop_specified» «stop_bits») (now (specified .entry)) (now (bits .entry)) (now (out .entry)) .buffer ⌝ }
-    ensures meaning { λ _. ⌜ SetMeaning (base cells taps) (now (masks .entry)) (testSliceOf «stop_specified» «stop_bits») (now (specified .entry)) (now (bits .entry)) (now (out .entry)) (encodeSet (base cells taps) (now (masks .entry)) (testSliceOf «stop_specified» «stop_bits») (now (specified .entry)) (now (bits .entry)) (now (out .entry))) ⌝ }
+    ensures answer { λ r. ⌜ r ≡ answerOf (encodeSet (settingsOf settings) (now (masks .entry)) (testSliceOf «stop_specified» «stop_bits») (now (specified .entry)) (now (bits .entry)) (now (out .entry)) .answer) ⌝ }
+    ensures buffer { λ _. ⌜ now (out .exit) ≡ encodeSet (settingsOf settings) (now (masks .entry)) (testSliceOf «stop_specified» «stop_bits») (now (specified .entry)) (now (bits .entry)) (now (out .entry)) .buffer ⌝ }
+    ensures meaning { λ _. ⌜ SetMeaning (settingsOf settings) (now (masks .entry)) (testSliceOf «stop_specified» «stop_bits») (now (specified .entry)) (now (bits .entry)) (now (out .entry)) (encodeSet (settingsOf settings) (now (masks .entry)) (testSliceOf «stop_specified» «stop_bits») (now (specified .entry)) (now (bits .entry)) (now (out .entry))) ⌝ }
 {
     face_words::encode_set(
-        cells,
-        taps,
+        settings,
         masks,
         stop_specified,
         stop_bits,
@@ -250,19 +217,18 @@ pub extern "C" fn seeds_encode_set(
 // The stop slice of the steps and the seeds of cubes, written into the buffer: causes 1 to 4, then 6, then 8, then 9.
 #[no_mangle]
 pub extern "C" fn seeds_encode_cubes(
-    cells: usize,
-    taps: u64,
+    settings: Settings,
     masks: &[u64],
     depth: usize,
     specified: &[u64],
     bits: &[u64],
     out: &mut [u64],
 ) -> CubesAnswer
-    ensures answer { λ r. ⌜ r ≡ cubesAnswerOf (encodeCubes (base cells taps) (now (masks .entry)) depth (now (specified .entry)) (now (bits .entry)) (now (out .entry)) .answer) ⌝ }
-    ensures buffer { λ _. ⌜ now (out .exit) ≡ encodeCubes (base cells taps) (now (masks .entry)) depth (now (specified .entry)) (now (bits .entry)) (now (out .entry)) .buffer ⌝ }
-    ensures meaning { λ _. ⌜ CubesMeaning (base cells taps) (now (masks .entry)) depth (now (specified .entry)) (now (bits .entry)) (now (out .entry)) (encodeCubes (base cells taps) (now (masks .entry)) depth (now (specified .entry)) (now (bits .entry)) (now (out .entry))) ⌝ }
+    ensures answer { λ r. ⌜ r ≡ cubesAnswerOf (encodeCubes (settingsOf settings) (now (masks .entry)) depth (now (specified .entry)) (now (bits .entry)) (now (out .entry)) .answer) ⌝ }
+    ensures buffer { λ _. ⌜ now (out .exit) ≡ encodeCubes (settingsOf settings) (now (masks .entry)) depth (now (specified .entry)) (now (bits .entry)) (now (out .entry)) .buffer ⌝ }
+    ensures meaning { λ _. ⌜ CubesMeaning (settingsOf settings) (now (masks .entry)) depth (now (specified .entry)) (now (bits .entry)) (now (out .entry)) (encodeCubes (settingsOf settings) (now (masks .entry)) depth (now (specified .entry)) (now (bits .entry)) (now (out .entry))) ⌝ }
 {
-    face_words::encode_cubes(cells, taps, masks, depth, specified, bits, out)
+    face_words::encode_cubes(settings, masks, depth, specified, bits, out)
 }
 
 // The seed list of a sheet, written into the buffer as text: the first refused line, then the checks over the whole, then 9 with the bytes needed.

@@ -44,8 +44,7 @@ pub fn put(stop: TestSlice, position: usize, bit: u64) -> TestSlice
     ensures { λ r. ⌜ r ≡ putOf position bit stop ⌝ }
 {
     let weight = 1u64 << position;
-    TestSlice {
-        specified: stop.specified + weight,
-        bits: stop.bits + bit * weight,
-    }
+    let specified = stop.specified + weight;
+    let bits = stop.bits + bit * weight;
+    TestSlice { specified, bits }
 }

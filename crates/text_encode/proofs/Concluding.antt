@@ -8,12 +8,13 @@ use mathlib.Core.List.{List}
 use Prim.Native.Nat.{ℕ}
 use lib.ListN.{getD, take, replicate}
 use lib.Seq.{sets}
+use Rattle.machine_settings.specs.declared.Settings.{Settings}
 use Rattle.refusal_causes.specs.declared.Refusal.{Refusal}
 use Rattle.text_keys.specs.Keys.{rank}
 use Rattle.text_keys.specs.declared.Key.the-variants as key
 use Rattle.text_reading.specs.Reading.{readingOf}
-use Rattle.text_entries.specs.Said.{masksOf, rowsOf, rowBitsOf}
-use Rattle.text_entries.specs.Kept.{keptAll}
+use Rattle.text_entries.specs.Said.{masksOf, itemsOf, itemBitsOf}
+use Rattle.text_entries.specs.Kept.{keptAll, keptSettings}
 use Rattle.text_order.specs.declared.Kind.{Kind}
 use Rattle.text_order.specs.declared.Kind.the-variants as kinds
 use Rattle.text_place.specs.declared.Place.{Place}
@@ -25,17 +26,17 @@ use Rattle.text_replies.specs.Replies.{concluded}
 use Rattle.text_replies.specs.declared.Answer.{Answer}
 use Rattle.text_replies.specs.declared.Answer.the-variants as answers
 use Rattle.text_replies.proofs.Answering.{Leaves, refused-leaves}
-use Rattle.text_replies.proofs.Read.{read-whole, number-said, masks-said, rows-said}
+use Rattle.text_replies.proofs.Read.{read-whole, number-said, settings-said, masks-said, items-said}
 
 -- The lists of a text that is read through, and the numbers for its keys.
 module _ (kind : Kind) (s : List ℕ) (p : Place) (e : readingOf kind s .end ≡ Whole p) (heads masks firsts : List ℕ)
-    (h : heads ≡ keptAll (λ f. f .first) (replicate 9 0) (readingOf kind s .entries)) (m : masks ≡ sets (replicate 64 0) 0 (masksOf (readingOf kind s .entries))) (f : firsts ≡ sets (replicate 2048 0) 0 (rowsOf (readingOf kind s .entries))) where
-  module _ (cells taps : ℕ) (c : cells ≡ getD heads (rank key.Cells) 0) (t : taps ≡ getD heads (rank key.Taps) 0) (out : List ℕ) (a : Answer) (after : List ℕ) where
-    pub sheet-said : (depth : ℕ) (seconds : List ℕ) → depth ≡ getD heads (rank key.Depth) 0 → seconds ≡ sets (replicate 2048 0) 0 (rowBitsOf (readingOf kind s .entries))
-        → Leaves (encoded cells taps (take (p .masks) masks) depth (take (p .rows) firsts) (take (p .rows) seconds)) out a after → Leaves (sheetReply (readingOf kind s .entries)) out a after
+    (h : heads ≡ keptAll (λ f. f .first) (replicate 9 0) (readingOf kind s .entries)) (m : masks ≡ sets (replicate 64 0) 0 (masksOf (readingOf kind s .entries))) (f : firsts ≡ sets (replicate 2048 0) 0 (itemsOf (readingOf kind s .entries))) where
+  module _ (g : Settings) (c : g ≡ keptSettings heads) (out : List ℕ) (a : Answer) (after : List ℕ) where
+    pub sheet-said : (depth : ℕ) (seconds : List ℕ) → depth ≡ getD heads (rank key.Depth) 0 → seconds ≡ sets (replicate 2048 0) 0 (itemBitsOf (readingOf kind s .entries))
+        → Leaves (encoded g (take (p .masks) masks) depth (take (p .items) firsts) (take (p .items) seconds)) out a after → Leaves (sheetReply (readingOf kind s .entries)) out a after
     unfolding sheetReply
     sheet-said depth seconds d b l =
-        rw (← (number-said kind s heads h key.Cells cells c), ← (number-said kind s heads h key.Taps taps t), ← (number-said kind s heads h key.Depth depth d), ← (masks-said kind s p e masks m), ← (rows-said kind s p e firsts f), ← (ap (take (p .rows)) b ∙ read-whole kind s p e .bits)) l
+        rw (← (settings-said kind s heads h g c), ← (number-said kind s heads h key.Depth depth d), ← (masks-said kind s p e masks m), ← (items-said kind s p e firsts f), ← (ap (take (p .items)) b ∙ read-whole kind s p e .bits)) l
 
 module _ (s out : List ℕ) (a : Answer) (after : List ℕ) where
   pub sheet-whole : (p : Place) → readingOf kinds.Sheet s .end ≡ Whole p → Leaves (sheetReply (readingOf kinds.Sheet s .entries)) out a after → (a ≡ encodeCall s out .answer) × (after ≡ encodeCall s out .buffer)

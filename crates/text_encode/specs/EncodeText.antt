@@ -7,7 +7,7 @@ use mathlib.Core.List.{List}
 use Prim.Native.Nat.{ℕ}
 use Rattle.text_keys.specs.declared.Key.the-variants as key
 use Rattle.text_reading.specs.Reading.{readingOf}
-use Rattle.text_entries.specs.Said.{masksOf, rowsOf, rowBitsOf, numberFor}
+use Rattle.text_entries.specs.Said.{masksOf, itemsOf, itemBitsOf, numberFor, settingsOf}
 use Rattle.text_entries.specs.declared.Entry.{Entry}
 use Rattle.text_order.specs.declared.Kind.the-variants as kinds
 use Rattle.text_replies.specs.Replies.{Reply, concluded, printed}
@@ -15,7 +15,7 @@ use Rattle.text_encode_said.specs.Encoded.{encoded}
 use Rattle.text_replies.specs.Calls.{TextOutcome, called}
 
 unfoldable pub sheetReply : List Entry → Reply
-sheetReply es = encoded (numberFor key.Cells es) (numberFor key.Taps es) (masksOf es) (numberFor key.Depth es) (rowsOf es) (rowBitsOf es)
+sheetReply es = encoded (settingsOf es) (masksOf es) (numberFor key.Depth es) (itemsOf es) (itemBitsOf es)
 
 unfoldable pub encodeReply : List ℕ → Reply
 encodeReply s = concluded (readingOf kinds.Sheet s .end) (sheetReply (readingOf kinds.Sheet s .entries))

@@ -26,12 +26,11 @@ pub fn encode_text(text: &[u8], out: &mut [u8]) -> Answer
         &mut seconds,
     ) {
         Scanned::Whole(place) => text_encode_said::encode_said(
-            text_entries::number(&heads, Key::Cells) as usize,
-            text_entries::number(&heads, Key::Taps),
+            text_entries::settings(&heads),
             &masks[..place.masks],
             text_entries::number(&heads, Key::Depth) as usize,
-            &firsts[..place.rows],
-            &seconds[..place.rows],
+            &firsts[..place.items],
+            &seconds[..place.items],
             out,
         ),
         Scanned::Refused(refusal) => Answer::Refused(refusal),

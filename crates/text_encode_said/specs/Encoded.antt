@@ -1,12 +1,11 @@
 -- The reply to what a sheet says (document 01, "Sheet and seed list").
 --     listReply g masks slices buffer a      the reply to an encoding that answers a and leaves the buffer
---     encoded cells taps masks depth specified bits        the reply to a sheet that says so
+--     encoded g masks depth specified bits        the reply to a sheet that says so
 use mathlib.Core.List.{List}
 use Prim.Native.Nat.{ℕ}
 use lib.ListN.{length, take}
 use Rattle.refusal_causes.specs.Sheet.{refusalOf}
 use Rattle.machine_settings.specs.declared.Settings.{Settings}
-use Rattle.machine_settings.specs.Machine.{base}
 use Rattle.encoder_cubes.specs.Cubes.{CubesOutcome, encodeCubes}
 use Rattle.encoder_cubes.specs.declared.Encoded.{Encoded}
 use Rattle.encoder_cubes.specs.declared.Encoded.the-variants as encoding
@@ -17,8 +16,7 @@ unfoldable pub listReply : Settings → List ℕ → ℕ → List ℕ → Encode
 listReply g masks slices buffer (encoding.Seeds stop n) = text (listText g masks stop slices (take n buffer)) n
 listReply g masks slices buffer (encoding.Refused c) = refused (refusalOf c)
 
--- Windows have up to 256 slices.
-unfoldable pub encoded : ℕ → ℕ → List ℕ → ℕ → List ℕ → List ℕ → Reply
-encoded cells taps masks depth specified bits =
-    let o : CubesOutcome = encodeCubes (base cells taps) masks depth specified bits lent in
-    listReply (base cells taps) masks (length specified) (o .buffer) (o .answer)
+unfoldable pub encoded : Settings → List ℕ → ℕ → List ℕ → List ℕ → Reply
+encoded g masks depth specified bits =
+    let o : CubesOutcome = encodeCubes g masks depth specified bits lent in
+    listReply g masks (length specified) (o .buffer) (o .answer)

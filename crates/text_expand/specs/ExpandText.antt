@@ -7,7 +7,7 @@ use mathlib.Core.List.{List}
 use Prim.Native.Nat.{ℕ}
 use Rattle.text_keys.specs.declared.Key.the-variants as key
 use Rattle.text_reading.specs.Reading.{readingOf}
-use Rattle.text_entries.specs.Said.{masksOf, rowsOf, numberFor, sliceFor}
+use Rattle.text_entries.specs.Said.{masksOf, itemsOf, numberFor, sliceFor, settingsOf}
 use Rattle.text_entries.specs.declared.Entry.{Entry}
 use Rattle.text_order.specs.declared.Kind.the-variants as kinds
 use Rattle.text_replies.specs.Replies.{Reply, concluded, printed}
@@ -15,7 +15,7 @@ use Rattle.text_expand_said.specs.Expanded.{expanded}
 use Rattle.text_replies.specs.Calls.{TextOutcome, called}
 
 unfoldable pub seedListReply : List Entry → Reply
-seedListReply es = expanded (numberFor key.Cells es) (numberFor key.Taps es) (masksOf es) (sliceFor key.Stop es) (numberFor key.Slices es) (rowsOf es)
+seedListReply es = expanded (settingsOf es) (masksOf es) (sliceFor key.Stop es) (numberFor key.Slices es) (itemsOf es)
 
 unfoldable pub expandReply : List ℕ → Reply
 expandReply s = concluded (readingOf kinds.SeedList s .end) (seedListReply (readingOf kinds.SeedList s .entries))

@@ -32,12 +32,11 @@ pub fn expand_text(text: &[u8], out: &mut [u8]) -> Answer
                 bits: text_entries::number(&tails, Key::Stop),
             };
             text_expand_said::expand_said(
-                text_entries::number(&heads, Key::Cells) as usize,
-                text_entries::number(&heads, Key::Taps),
+                text_entries::settings(&heads),
                 &masks[..place.masks],
                 stop,
                 text_entries::number(&heads, Key::Slices) as usize,
-                &firsts[..place.rows],
+                &firsts[..place.items],
                 out,
             )
         }

@@ -1,4 +1,5 @@
 // From what a seed list says to the bytes of its slices (document 01, "Sheet and seed list").
+use machine_settings::Settings;
 use machine_slices::TestSlice;
 use refusal_causes::Written;
 use text_replies::Answer;
@@ -27,8 +28,7 @@ fn reply_slices(chains: usize, slices: &[u64], written: Written, out: &mut [u8])
 // Expands what a seed list says.
 // An inner function: its callers show that there are at most 64 masks.
 pub fn expand_said(
-    cells: usize,
-    taps: u64,
+    settings: Settings,
     masks: &[u64],
     stop: TestSlice,
     slices: usize,
@@ -36,10 +36,10 @@ pub fn expand_said(
     out: &mut [u8],
 ) -> Answer
     requires { ⌜ length (now masks) ≤ 64 ⌝ }
-    ensures answer { λ r. ⌜ r ≡ called (expanded cells taps (now (masks .entry)) stop slices (now (seeds .entry))) (now (out .entry)) .answer ⌝ }
-    ensures buffer { λ _. ⌜ now (out .exit) ≡ called (expanded cells taps (now (masks .entry)) stop slices (now (seeds .entry))) (now (out .entry)) .buffer ⌝ }
+    ensures answer { λ r. ⌜ r ≡ called (expanded settings (now (masks .entry)) stop slices (now (seeds .entry))) (now (out .entry)) .answer ⌝ }
+    ensures buffer { λ _. ⌜ now (out .exit) ≡ called (expanded settings (now (masks .entry)) stop slices (now (seeds .entry))) (now (out .entry)) .buffer ⌝ }
 {
     let mut values = [0u64; refusal_lengths::MOST_SLICES];
-    let written = expander_list::expand_list(cells, taps, masks, stop, slices, seeds, &mut values);
+    let written = expander_list::expand_list(settings, masks, stop, slices, seeds, &mut values);
     reply_slices(masks.len(), &values, written, out)
 }

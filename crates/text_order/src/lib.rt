@@ -3,7 +3,7 @@ use text_keys::Key;
 use text_place::Place;
 ghost use mathlib.Core.Path.{_≡_};
 ghost use Prim.Native.Nat.{_+_, _<_, _^_};
-ghost use Rattle.text_order.specs.Order.{afterChains, afterMask, onTo, afterRow, moved as movedOf};
+ghost use Rattle.text_order.specs.Order.{afterChains, afterMask, onTo, afterItem, moved as movedOf};
 
 // The kinds of text that are read.
 pub enum Kind {
@@ -42,28 +42,28 @@ fn on_to(place: Place, due: Key) -> Place
         cells: place.cells,
         chains: place.chains,
         masks: place.masks,
-        rows: place.rows,
+        items: place.items,
     }
 }
 
-// The place after one row more, with a key due.
-fn after_row(place: Place, due: Key) -> Place
-    requires { ⌜ place .rows + 1 < 2 ^ 64 ⌝ }
-    ensures { λ r. ⌜ r ≡ afterRow place due ⌝ }
+// The place after one item more, with a key due.
+fn after_item(place: Place, due: Key) -> Place
+    requires { ⌜ place .items + 1 < 2 ^ 64 ⌝ }
+    ensures { λ r. ⌜ r ≡ afterItem place due ⌝ }
 {
     Place {
         due,
         cells: place.cells,
         chains: place.chains,
         masks: place.masks,
-        rows: place.rows + 1,
+        items: place.items + 1,
     }
 }
 
 // The place after a line with a key and a number.
-// An inner function: its callers show that the chain lines and the rows that were read, and one more, are numbers of the machine.
+// An inner function: its callers show that the chain lines and the items that were read, and one more, are numbers of the machine.
 pub fn moved(kind: Kind, place: Place, key: Key, v: u64) -> Place
-    requires { ⌜ (place .masks + 1 < 2 ^ 64) × (place .rows + 1 < 2 ^ 64) ⌝ }
+    requires { ⌜ (place .masks + 1 < 2 ^ 64) × (place .items + 1 < 2 ^ 64) ⌝ }
     ensures { λ r. ⌜ r ≡ movedOf kind place key v ⌝ }
 {
     match key {
@@ -72,7 +72,7 @@ pub fn moved(kind: Kind, place: Place, key: Key, v: u64) -> Place
             cells: v as usize,
             chains: place.chains,
             masks: place.masks,
-            rows: place.rows,
+            items: place.items,
         },
         Key::Taps => on_to(place, Key::Chains),
         Key::Chains => Place {
@@ -80,19 +80,19 @@ pub fn moved(kind: Kind, place: Place, key: Key, v: u64) -> Place
             cells: place.cells,
             chains: v as usize,
             masks: place.masks,
-            rows: place.rows,
+            items: place.items,
         },
         Key::Chain => Place {
             due: after_mask(kind, place),
             cells: place.cells,
             chains: place.chains,
             masks: place.masks + 1,
-            rows: place.rows,
+            items: place.items,
         },
         Key::Depth => on_to(place, Key::Slice),
-        Key::Slice => after_row(place, Key::Slice),
+        Key::Slice => after_item(place, Key::Slice),
         Key::Stop => on_to(place, Key::Slices),
         Key::Slices => on_to(place, Key::Seed),
-        Key::Seed => after_row(place, Key::Seed),
+        Key::Seed => after_item(place, Key::Seed),
     }
 }

@@ -2,15 +2,15 @@
 use text_keys::Key;
 ghost use mathlib.Core.Path.{_≡_};
 ghost use Rattle.text_keys.specs.Keys.{same as sameOf};
-ghost use Rattle.text_place.specs.Places.{isRow};
+ghost use Rattle.text_place.specs.Places.{isItem};
 
-// How far a text is read: the key that is due, the cells and chains that were read, and how many chain lines and how many rows (slice or seed lines).
+// How far a text is read: the key that is due, the cells and chains that were read, and how many chain lines and how many items (slice or seed lines).
 pub struct Place {
     pub due: Key,
     pub cells: usize,
     pub chains: usize,
     pub masks: usize,
-    pub rows: usize,
+    pub items: usize,
 }
 
 // Whether two keys are one.
@@ -20,9 +20,9 @@ pub fn same(a: Key, b: Key) -> bool
     text_keys::rank(a) == text_keys::rank(b)
 }
 
-// Whether a line with a key is a row.
-pub fn is_row(key: Key) -> bool
-    ensures { λ r. ⌜ r ≡ isRow key ⌝ }
+// Whether a line with a key is an item.
+pub fn is_item(key: Key) -> bool
+    ensures { λ r. ⌜ r ≡ isItem key ⌝ }
 {
     if same(key, Key::Slice) {
         return true;

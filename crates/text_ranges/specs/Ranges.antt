@@ -34,10 +34,10 @@ outOfRange p key.Taps v = badRegister (p .cells) v
 outOfRange p key.Chains v = badCount v
 outOfRange p key.Chain v = badMask (p .cells) v
 outOfRange p key.Depth v = not (within 1 mostDepth v)
-outOfRange p key.Slice v = leb mostSlices (p .rows)
+outOfRange p key.Slice v = leb mostSlices (p .items)
 outOfRange p key.Stop v = eqb v 0
 outOfRange p key.Slices v = badSet v
-outOfRange p key.Seed v = leb mostSlices (p .rows)
+outOfRange p key.Seed v = leb mostSlices (p .items)
 
 unfoldable pub rangeCause : Key → LineCause
 rangeCause key.Cells = lineCause.Register

@@ -16,10 +16,10 @@ fn out_of_range(place: Place, key: Key, v: u64) -> bool
         Key::Chains => machine_chains::bad_count(v as usize),
         Key::Chain => machine_chains::bad_mask(place.cells, v),
         Key::Depth => !words_bounded::within(1, refusal_lengths::MOST_DEPTH, v as usize),
-        Key::Slice => refusal_lengths::MOST_SLICES <= place.rows,
+        Key::Slice => refusal_lengths::MOST_SLICES <= place.items,
         Key::Stop => v == 0,
         Key::Slices => refusal_lengths::bad_set(v as usize),
-        Key::Seed => refusal_lengths::MOST_SLICES <= place.rows,
+        Key::Seed => refusal_lengths::MOST_SLICES <= place.items,
     }
 }
 

@@ -1,6 +1,6 @@
 -- A line at the place where its key is due, in front of a text that is read through.
 --     Reads p s es q      the bytes s, at the place p, are read through to the place q, and say the entries es
---     reads-end           nothing more, where a row is due
+--     reads-end           nothing more, where an item is due
 --     line-reads          a line that is accepted
 --     line-text           a line that is written, and the text after it
 --     value-reads         a line with a key and its value
@@ -19,7 +19,7 @@ use Rattle.text_keys.proofs.Same.{same-self}
 use Rattle.text_lines.specs.Form.{formed}
 use Rattle.text_lines.specs.declared.Line.the-variants.{Number, Slice}
 use Rattle.text_split.specs.Text.{split}
-use Rattle.text_place.specs.Places.{isRow}
+use Rattle.text_place.specs.Places.{isItem}
 use Rattle.text_ranges.specs.Ranges.{outOfRange, ranged, saying}
 use Rattle.text_order.specs.Order.{moved}
 use Rattle.text_entries.specs.Said.{entry}
@@ -42,7 +42,7 @@ use Rattle.text_readback.proofs.Splitting.{isFeed, plain-append, name-p
 abbrev pub Reads : Place → List ℕ → List Entry → Place → Type 0
 Reads p s es q = (n : ℕ) → reading SeedList p n (split s) ≡ record { entries = es; end = Whole q }
 
-pub reads-end : (p : Place) → isRow (p .due) ≡ true → Reads p [] [] p
+pub reads-end : (p : Place) → isItem (p .due) ≡ true → Reads p [] [] p
 unfolding reading split
 reads-end p r n = ap stops (end-whole p n r)
 
@@ -56,10 +56,10 @@ line-reads p q l t e es plain taken r n =
 line-text : (k v t : List ℕ) → (k ++ (v ++ (feed ∷ []))) ++ t ≡ (k ++ v) ++ (feed ∷ t)
 line-text k v t = simp append-assoc
 
-module _ (k : Key) (cells chains masks rows : ℕ) where
+module _ (k : Key) (cells chains masks items : ℕ) where
   -- The place where k is due.
   abbrev here : Place
-  here = placeAt k cells chains masks rows
+  here = placeAt k cells chains masks items
 
   module _ (q : Place) (t : List ℕ) (es : List Entry) where
     value-reads : (v : List ℕ) (a b : ℕ) → any isFeed v ≡ false → takenOf (saying here (name k ++ v)) ≡ Said (entry k a b) → Reads (moved SeedList here k a) t es q → Reads here ((name k ++ (v ++ (feed ∷ []))) ++ t) (entry k a b ∷ es) q

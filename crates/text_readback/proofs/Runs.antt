@@ -22,7 +22,7 @@ use Rattle.machine_chains.specs.Chains.{badMask}
 use Rattle.text_keys.specs.Keys.{name, rank, same, notation}
 use Rattle.text_keys.specs.declared.Key.{Key}
 use Rattle.text_keys.specs.declared.Key.the-variants as key
-use Rattle.text_place.specs.Places.{isRow}
+use Rattle.text_place.specs.Places.{isItem}
 use Rattle.text_ranges.specs.Ranges.{outOfRange}
 use Rattle.text_order.specs.Order.{afterChains, afterMask, moved}
 use Rattle.text_place.specs.declared.Place.{Place}
@@ -64,7 +64,7 @@ module _ (cells chains : ℕ) where
   module _ (masks : ℕ) where
     pub seeds-read : (ss : List ℕ) (n : ℕ) → n + length ss ≤ 2048 → any (beyond 64) ss ≡ false
         → Reads (placeAt key.Seed cells chains masks n) (numberLines 16 (name key.Seed) ss) (map (λ s. entry key.Seed s 0) ss) (placeAt key.Seed cells chains masks (n + length ss))
-    unfolding numberLines any notation outOfRange moved isRow same rank
+    unfolding numberLines any notation outOfRange moved isItem same rank
     seeds-read [] n h b = rw add-zero (reads-end (placeAt key.Seed cells chains masks n) refl)
     seeds-read (s ∷ ss) n h b =
         let a = neither (beyond 64 s) (any (beyond 64) ss) b in

@@ -2,7 +2,7 @@
 --     picked-append      the picked of two lists, one after the other
 --     picked-none, picked-all      of lines with one key none is picked, or all are
 --     picked-parts, picked-between      the picked of a seed list's entries after the first three, and those of a key with one line among them
---     masks-back, rows-back, cells-back, taps-back, slices-back, stop-back      the numbers by their keys
+--     masks-back, items-back, cells-back, taps-back, slices-back, stop-back      the numbers by their keys
 -- Assumes nothing.
 use mathlib.Core.Bool.{Bool, true, false}
 use mathlib.Core.Path.{_≡_, refl, ap, ap₂, _∙_}
@@ -12,8 +12,8 @@ use Rattle.machine_slices.specs.declared.TestSlice.{TestSlice}
 use Rattle.text_keys.specs.Keys.{rank, same}
 use Rattle.text_keys.specs.declared.Key.{Key}
 use Rattle.text_keys.specs.declared.Key.the-variants as key
-use Rattle.text_place.specs.Places.{isRow}
-use Rattle.text_entries.specs.Said.{keyIs, rowIs, picked, masksOf, rowsOf, lastOr, numberFor, sliceFor, entry}
+use Rattle.text_place.specs.Places.{isItem}
+use Rattle.text_entries.specs.Said.{keyIs, itemIs, picked, masksOf, itemsOf, lastOr, numberFor, sliceFor, entry}
 use Rattle.text_entries.specs.declared.Entry.{Entry}
 use Rattle.text_readback.specs.Written.{entriesOf}
 
@@ -61,11 +61,11 @@ module _ (cells taps : ℕ) (masks : List ℕ) (stop : TestSlice) (slices : ℕ)
       picked-parts (keyIs key.Chain) (λ e. e .first)
       ∙ rw (picked-all (keyIs key.Chain) key.Chain (λ v. refl) masks, picked-none (keyIs key.Chain) (λ e. e .first) key.Seed (λ v. refl) seeds) (append-nil masks)
 
-  pub rows-back : rowsOf (entriesOf cells taps masks stop slices seeds) ≡ seeds
-  unfolding entriesOf picked same rank isRow
-  rows-back =
-      picked-parts rowIs (λ e. e .first)
-      ∙ rw (picked-none rowIs (λ e. e .first) key.Chain (λ v. refl) masks, picked-all rowIs key.Seed (λ v. refl) seeds)
+  pub items-back : itemsOf (entriesOf cells taps masks stop slices seeds) ≡ seeds
+  unfolding entriesOf picked same rank isItem
+  items-back =
+      picked-parts itemIs (λ e. e .first)
+      ∙ rw (picked-none itemIs (λ e. e .first) key.Chain (λ v. refl) masks, picked-all itemIs key.Seed (λ v. refl) seeds)
 
   pub cells-back : numberFor key.Cells (entriesOf cells taps masks stop slices seeds) ≡ cells
   unfolding entriesOf picked same rank lastOr

@@ -94,6 +94,6 @@ module _ (cells taps : ℕ) (masks : List ℕ) (stop : TestSlice) (slices : ℕ)
       (masks-read cells (length masks) (c .1) _ _ last tail-reads masks 0 (zero-add (length masks)) (chains-masked cells masks (p .chains))))))
 
   pub read-back : readingOf kinds.SeedList (listText (base cells taps) masks stop slices seeds)
-      ≡ record { entries = entriesOf cells taps masks stop slices seeds; end = Whole (record { due = key.Seed; cells = cells; chains = length masks; masks = length masks; rows = length seeds }) }
+      ≡ record { entries = entriesOf cells taps masks stop slices seeds; end = Whole (record { due = key.Seed; cells = cells; chains = length masks; masks = length masks; items = length seeds }) }
   unfolding readingOf listText headText
   read-back = simp append-assoc (list-reads 1)

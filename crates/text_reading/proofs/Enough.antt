@@ -41,40 +41,40 @@ abbrev pub enough : ℕ
 enough = 80 * 2117 + 81
 
 abbrev ahead : Key → ℕ → ℕ → ℕ → ℕ
-ahead key.Cells chains masks rows = 2117
-ahead key.Taps chains masks rows = 2116
-ahead key.Chains chains masks rows = 2115
-ahead key.Chain chains masks rows = (chains - masks) + 2050 - rows
-ahead key.Depth chains masks rows = 2049 - rows
-ahead key.Slice chains masks rows = 2048 - rows
-ahead key.Stop chains masks rows = 2050 - rows
-ahead key.Slices chains masks rows = 2049 - rows
-ahead key.Seed chains masks rows = 2048 - rows
+ahead key.Cells chains masks items = 2117
+ahead key.Taps chains masks items = 2116
+ahead key.Chains chains masks items = 2115
+ahead key.Chain chains masks items = (chains - masks) + 2050 - items
+ahead key.Depth chains masks items = 2049 - items
+ahead key.Slice chains masks items = 2048 - items
+ahead key.Stop chains masks items = 2050 - items
+ahead key.Slices chains masks items = 2049 - items
+ahead key.Seed chains masks items = 2048 - items
 
 abbrev aheadOf : Place → ℕ
-aheadOf p = ahead (p .due) (p .chains) (p .masks) (p .rows)
+aheadOf p = ahead (p .due) (p .chains) (p .masks) (p .items)
 
 -- One chain line more leaves fewer ahead.
-fewer-masks : (kind : Kind) (chains masks rows : ℕ) → rows ≤ 2048 → masks < chains → (b : Bool) → ltb (masks + 1) chains ≡ b → ahead (elim b [ true ↦ key.Chain | false ↦ afterChains kind ]) chains (masks + 1) rows < (chains - masks) + 2050 - rows
+fewer-masks : (kind : Kind) (chains masks items : ℕ) → items ≤ 2048 → masks < chains → (b : Bool) → ltb (masks + 1) chains ≡ b → ahead (elim b [ true ↦ key.Chain | false ↦ afterChains kind ]) chains (masks + 1) items < (chains - masks) + 2050 - items
 unfolding afterChains
-fewer-masks kind chains masks rows r h true e = let g = ltb-true (masks + 1) chains e in omega arith
-fewer-masks kinds.Sheet chains masks rows r h false e = omega arith
-fewer-masks kinds.SeedList chains masks rows r h false e = omega arith
+fewer-masks kind chains masks items r h true e = let g = ltb-true (masks + 1) chains e in omega arith
+fewer-masks kinds.Sheet chains masks items r h false e = omega arith
+fewer-masks kinds.SeedList chains masks items r h false e = omega arith
 
-fewer-next : (kind : Kind) (k : Key) (cells chains masks rows v : ℕ) → Sound (placeAt k cells chains masks rows) → outOfRange (placeAt k cells chains masks rows) k v ≡ false → aheadOf (moved kind (placeAt k cells chains masks rows) k v) < ahead k chains masks rows
+fewer-next : (kind : Kind) (k : Key) (cells chains masks items v : ℕ) → Sound (placeAt k cells chains masks items) → outOfRange (placeAt k cells chains masks items) k v ≡ false → aheadOf (moved kind (placeAt k cells chains masks items) k v) < ahead k chains masks items
 unfolding moved outOfRange badCount afterMask
-fewer-next kind key.Cells cells chains masks rows v s o = omega arith
-fewer-next kind key.Taps cells chains masks rows v s o = omega arith
-fewer-next kind key.Chains cells chains masks rows v s o = let w = within-yes 1 64 v (not-false _ o) in omega (arith, w .1)
-fewer-next kind key.Chain cells chains masks rows v s o = fewer-masks kind chains masks rows (s .0) (s .1 .0) (ltb (masks + 1) chains) refl
-fewer-next kind key.Depth cells chains masks rows v s o = let r = s .0 in omega arith
-fewer-next kind key.Slice cells chains masks rows v s o = let l = leb-false 2048 rows o in omega arith
-fewer-next kind key.Stop cells chains masks rows v s o = let r = s .0 in omega arith
-fewer-next kind key.Slices cells chains masks rows v s o = let r = s .0 in omega arith
-fewer-next kind key.Seed cells chains masks rows v s o = let l = leb-false 2048 rows o in omega arith
+fewer-next kind key.Cells cells chains masks items v s o = omega arith
+fewer-next kind key.Taps cells chains masks items v s o = omega arith
+fewer-next kind key.Chains cells chains masks items v s o = let w = within-yes 1 64 v (not-false _ o) in omega (arith, w .1)
+fewer-next kind key.Chain cells chains masks items v s o = fewer-masks kind chains masks items (s .0) (s .1 .0) (ltb (masks + 1) chains) refl
+fewer-next kind key.Depth cells chains masks items v s o = let r = s .0 in omega arith
+fewer-next kind key.Slice cells chains masks items v s o = let l = leb-false 2048 items o in omega arith
+fewer-next kind key.Stop cells chains masks items v s o = let r = s .0 in omega arith
+fewer-next kind key.Slices cells chains masks items v s o = let r = s .0 in omega arith
+fewer-next kind key.Seed cells chains masks items v s o = let l = leb-false 2048 items o in omega arith
 
 fewer-step : (kind : Kind) (p : Place) (e : Entry) → Sound p → Accepted p e → aheadOf (moved kind p (e .key) (e .first)) < aheadOf p
-fewer-step kind p e s a = rw (a .due) (fewer-next kind (p .due) (p .cells) (p .chains) (p .masks) (p .rows) (e .first) s (rw (a .due) at (a .ranges)))
+fewer-step kind p e s a = rw (a .due) (fewer-next kind (p .due) (p .cells) (p .chains) (p .masks) (p .items) (e .first) s (rw (a .due) at (a .ranges)))
 
 -- The text of the first b bytes.
 unfoldable cutAt : ℕ → Text → Text

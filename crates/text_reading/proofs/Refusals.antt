@@ -11,7 +11,7 @@ use Rattle.text_lines.specs.declared.LineCause.the-variants as lineCause
 use Rattle.text_lines.specs.declared.Line.{Line}
 use Rattle.text_lines.specs.declared.Line.the-variants as lines
 use Rattle.text_split.specs.Text.{Text, line, rest, split}
-use Rattle.text_place.specs.Places.{start, isRow}
+use Rattle.text_place.specs.Places.{start, isItem}
 use Rattle.text_ranges.specs.Ranges.{saying}
 use Rattle.text_order.specs.Order.{moved}
 use Rattle.text_taken.specs.Taking.{refusedAt, takenOf, refusalOfLine, endOf}
@@ -37,9 +37,9 @@ module _ (P : ℕ → Type 0) (line-number : (c : LineCause) (n : ℕ) → P (re
   said-number (lines.Refused c) n = line-number c n
 
   end-refused : (p : Place) (n : ℕ) → EndsBy P (endOf p n)
-  end-refused p n = go (isRow (p .due)) refl
+  end-refused p n = go (isItem (p .due)) refl
     where
-      go : (b : Bool) → isRow (p .due) ≡ b → EndsBy P (endOf p n)
+      go : (b : Bool) → isItem (p .due) ≡ b → EndsBy P (endOf p n)
       go true e = rw (end-whole p n e) tt
       go false e = rw (end-early p n e) (line-number lineCause.Form n)
 

@@ -21,7 +21,7 @@ use Rattle.text_ranges.specs.Ranges.{saying}
 use Rattle.text_order.specs.Order.{moved}
 use Rattle.text_taken.specs.Taking.{refusedAt, takenOf, refusalOfLine, endOf}
 use Rattle.text_reading.specs.Reading.{Reading, stops, told, reading, readingOf}
-use Rattle.text_entries.specs.Said.{masksOf, rowsOf, rowBitsOf}
+use Rattle.text_entries.specs.Said.{masksOf, itemsOf, itemBitsOf}
 use Rattle.text_order.specs.declared.Kind.{Kind}
 use Rattle.text_place.specs.declared.Place.{Place}
 use Rattle.text_entries.specs.declared.Entry.{Entry}
@@ -35,7 +35,7 @@ pub record Left (kind : Kind) (s : List ℕ) (l₀ l : Lists) (p : Place) (n at 
   pub here : at ≤ length s
   pub lines : n ≤ at + 1
   pub counted : p .masks < n
-  pub numbered : p .rows < n
+  pub numbered : p .items < n
   pub ends : reading kind p n (split (drop at s)) .end ≡ readingOf kind s .end
   pub lists : filled l p (reading kind p n (split (drop at s)) .entries) ≡ filled l₀ start (readingOf kind s .entries)
 
@@ -45,8 +45,8 @@ Ends kind s l₀ l r =
     × ((l .heads ≡ keptAll (λ e. e .first) (l₀ .heads) (readingOf kind s .entries))
     × ((l .tails ≡ keptAll (λ e. e .second) (l₀ .tails) (readingOf kind s .entries))
     × ((l .masks ≡ sets (l₀ .masks) 0 (masksOf (readingOf kind s .entries)))
-    × ((l .firsts ≡ sets (l₀ .firsts) 0 (rowsOf (readingOf kind s .entries)))
-    × (l .seconds ≡ sets (l₀ .seconds) 0 (rowBitsOf (readingOf kind s .entries)))))))
+    × ((l .firsts ≡ sets (l₀ .firsts) 0 (itemsOf (readingOf kind s .entries)))
+    × (l .seconds ≡ sets (l₀ .seconds) 0 (itemBitsOf (readingOf kind s .entries)))))))
 
 module _ (kind : Kind) (s : List ℕ) (l₀ : Lists) where
   pub left-start : Left kind s l₀ l₀ start 1 0

@@ -9,9 +9,9 @@ ghost use mathlib.Core.Path.{_≡_};
 ghost use lib.Seq.{sets};
 ghost use Rattle.text_entries.specs.Kept.{keptAll};
 ghost use Rattle.text_reading.specs.Reading.{readingOf};
-ghost use Rattle.text_entries.specs.Said.{masksOf, rowsOf, rowBitsOf};
+ghost use Rattle.text_entries.specs.Said.{masksOf, itemsOf, itemBitsOf};
 
-// Reads a text. The numbers of its lines go into the lists, up to the first refused line: by the rank of their key into heads and tails, those of chain lines into masks, those of rows into firsts and seconds.
+// Reads a text. The numbers of its lines go into the lists, up to the first refused line: by the rank of their key into heads and tails, those of chain lines into masks, those of items into firsts and seconds.
 pub fn scan(
     kind: Kind,
     text: &[u8],
@@ -25,15 +25,15 @@ pub fn scan(
     ensures heads { λ _. ⌜ now (heads .exit) ≡ keptAll (λ e. e .first) (now (heads .entry)) (readingOf kind (now (text .entry)) .entries) ⌝ }
     ensures tails { λ _. ⌜ now (tails .exit) ≡ keptAll (λ e. e .second) (now (tails .entry)) (readingOf kind (now (text .entry)) .entries) ⌝ }
     ensures masks { λ _. ⌜ now (masks .exit) ≡ sets (now (masks .entry)) 0 (masksOf (readingOf kind (now (text .entry)) .entries)) ⌝ }
-    ensures firsts { λ _. ⌜ now (firsts .exit) ≡ sets (now (firsts .entry)) 0 (rowsOf (readingOf kind (now (text .entry)) .entries)) ⌝ }
-    ensures seconds { λ _. ⌜ now (seconds .exit) ≡ sets (now (seconds .entry)) 0 (rowBitsOf (readingOf kind (now (text .entry)) .entries)) ⌝ }
+    ensures firsts { λ _. ⌜ now (firsts .exit) ≡ sets (now (firsts .entry)) 0 (itemsOf (readingOf kind (now (text .entry)) .entries)) ⌝ }
+    ensures seconds { λ _. ⌜ now (seconds .exit) ≡ sets (now (seconds .entry)) 0 (itemBitsOf (readingOf kind (now (text .entry)) .entries)) ⌝ }
 {
     let mut place = Place {
         due: Key::Cells,
         cells: 0,
         chains: 0,
         masks: 0,
-        rows: 0,
+        items: 0,
     };
     let mut n: usize = 1;
     let mut at: usize = 0;

@@ -21,7 +21,7 @@ use Rattle.refusal_order.specs.declared.Verdict.the-variants as verdict
 use Rattle.theory_covering.specs.Rules.{Rules}
 use Rattle.expander_meaning.specs.Run.{Given, gives, fails, ending, delivers, firstStop}
 use Rattle.expander_meaning.specs.Expanding.{Walk, ran, failed, after, isLast, walk}
-use Rattle.expander_meaning.proofs.OneSeed.{walk-fails, walk-gives}
+use Rattle.expander_meaning.proofs.OneSeed.{walk-fails, walk-idle, walk-gives}
 
 abbrev pub Other : Cause → Type 0
 Other cause.Register = Unit {0}
@@ -126,4 +126,5 @@ module _ (M : Machine) (R : Rules) where
     where
       go : (d : Given) → delivers M R (R .live done) place (R .openEnd && isLast ss) (n - done) s ≡ d → ((m : ℕ) → walk M R n (suc place) (done + m) ss ≡ failed c → Other c) → Other c
       go (fails k) q ih = rw (← (failed-is k c (sym (walk-fails M R n place done s ss k q) ∙ e))) (delivers-other _ _ _ _ _ k q)
-      go (gives m) q ih = ih m (after-failed _ _ c (sym (walk-gives M R n place done s ss m q) ∙ e))
+      go (gives zero) q ih = rw (← (failed-is (cause.Total done) c (sym (walk-idle M R n place done s ss q) ∙ e))) tt
+      go (gives (suc m)) q ih = ih (suc m) (after-failed _ _ c (sym (walk-gives M R n place done s ss (suc m) q (omega arith)) ∙ e))

@@ -26,6 +26,8 @@ use Rattle.refusal_checks.specs.Calls.{setFaults, cubesFaults, listFaults}
 use Rattle.refusal_order.specs.declared.Verdict.{Verdict}
 use Rattle.refusal_order.specs.declared.Verdict.the-variants as verdict
 use Rattle.refusal_lengths.proofs.Lengths.{set-within, list-within}
+use Rattle.refusal_lengths.specs.Lengths.{badList}
+use Rattle.refusal_checks.proofs.Limited.{limited-parts}
 use Rattle.refusal_order.proofs.Order.{formed-well}
 use Rattle.refusal_checks.proofs.Stopped.{set-formed}
 use Rattle.theory_cutting.proofs.Parts.{covering-length, cuts-count}
@@ -139,7 +141,7 @@ module _ (g : Settings) (masks : List ℕ) (stop : TestSlice) (n : ℕ) (seeds :
 
   few : judged (listFaults g masks stop n (length seeds)) ≡ verdict.WellFormed → n ≤ 2048
   unfolding listFaults
-  few w = list-within n (length seeds) (formed-well (listFaults g masks stop n (length seeds)) w .lengths) .0
+  few w = list-within n (length seeds) (limited-parts g (badList n (length seeds)) (formed-well (listFaults g masks stop n (length seeds)) w .lengths) .2) .0
 
   expand-other : (c : Cause) → expandList g masks stop n seeds lent .answer ≡ written.Refused c → Other c
   unfolding expandList expanding refuse

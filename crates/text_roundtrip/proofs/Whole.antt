@@ -27,7 +27,7 @@ use Rattle.encoder_meaning.specs.Meaning.{Shortest}
 use Rattle.encoder_cubes.specs.declared.Encoded.{Encoded}
 use Rattle.encoder_cubes.specs.declared.Encoded.the-variants as encodings
 use Rattle.text_reading.specs.Reading.{readingOf}
-use Rattle.text_entries.specs.Said.{masksOf, rowsOf, rowBitsOf, numberFor}
+use Rattle.text_entries.specs.Said.{masksOf, itemsOf, itemBitsOf, numberFor}
 use Rattle.text_order.specs.declared.Kind.the-variants as kinds
 use Rattle.text_taken.specs.declared.Scanned.{Scanned}
 use Rattle.text_taken.specs.declared.Scanned.the-variants as scanned
@@ -35,7 +35,7 @@ use Rattle.text_write_slices.specs.Slices.{sliceLines}
 use Rattle.text_write_list.specs.SeedList.{listText}
 use Rattle.text_readback.specs.Written.{Printable}
 use Rattle.text_readback.proofs.Whole.{read-back}
-use Rattle.text_readback.proofs.Said.{masks-back, rows-back, cells-back, taps-back, slices-back, stop-back}
+use Rattle.text_readback.proofs.Said.{masks-back, items-back, cells-back, taps-back, slices-back, stop-back}
 use Rattle.text_replies.specs.Replies.{Reply, text, refused, lent, concluded}
 use Rattle.text_encode_said.specs.Encoded.{listReply, encoded}
 use Rattle.text_expand_said.specs.Expanded.{slicesReply, expanded}
@@ -49,9 +49,9 @@ use Rattle.text_roundtrip.proofs.Accepted.{cubes-accepted}
 
 module _ (cells taps : ℕ) (masks : List ℕ) (stop : TestSlice) (slices : ℕ) (seeds : List ℕ) (p : Printable cells taps masks stop slices seeds) where
   -- The list is expanded as what was written.
-  list-expands : expandReply (listText (base cells taps) masks stop slices seeds) ≡ expanded cells taps masks stop slices seeds
+  list-expands : expandReply (listText (base cells taps) masks stop slices seeds) ≡ expanded (base cells taps) masks stop slices seeds
   unfolding expandReply concluded seedListReply
-  list-expands = rw (read-back cells taps masks stop slices seeds p, masks-back cells taps masks stop slices seeds, rows-back cells taps masks stop slices seeds, cells-back cells taps masks stop slices seeds, taps-back cells taps masks stop slices seeds, slices-back cells taps masks stop slices seeds, stop-back cells taps masks stop slices seeds)
+  list-expands = rw (read-back cells taps masks stop slices seeds p, masks-back cells taps masks stop slices seeds, items-back cells taps masks stop slices seeds, cells-back cells taps masks stop slices seeds, taps-back cells taps masks stop slices seeds, slices-back cells taps masks stop slices seeds, stop-back cells taps masks stop slices seeds)
 
 -- Slices that are delivered stand in the lent buffer.
 delivered-reply : (chains : ℕ) (vs : List ℕ) (o : Outcome) → o ≡ fill vs lent → length vs ≤ 2048 → slicesReply chains (o .buffer) (o .answer) ≡ text (sliceLines chains vs) (length vs)
@@ -128,12 +128,12 @@ pub round-trip : (s list : List ℕ) (n : ℕ) → encodeReply s ≡ text list n
 unfolding encodeReply sheetReply encoded
 round-trip s list n e =
     let es = sheetOf s in
-    let b = reply-back (numberFor key.Cells es) (numberFor key.Taps es) (masksOf es) (numberFor key.Depth es) (rowsOf es) (rowBitsOf es) _ refl list n (concluded-text (readingOf kinds.Sheet s .end) _ list n e) in
+    let b = reply-back (numberFor key.Cells es) (numberFor key.Taps es) (masksOf es) (numberFor key.Depth es) (itemsOf es) (itemBitsOf es) _ refl list n (concluded-text (readingOf kinds.Sheet s .end) _ list n e) in
     record { slices = b .slices; expands = b .expands; whole = b .whole; agree = b .agree }
 
 pub quoted : (s list : List ℕ) (n : ℕ) → encodeReply s ≡ text list n → Quoted s list n
 unfolding encodeReply sheetReply encoded
 quoted s list n e =
     let es = sheetOf s in
-    let b = reply-quotes (numberFor key.Cells es) (numberFor key.Taps es) (masksOf es) (numberFor key.Depth es) (rowsOf es) (rowBitsOf es) _ refl list n (concluded-text (readingOf kinds.Sheet s .end) _ list n e) in
+    let b = reply-quotes (numberFor key.Cells es) (numberFor key.Taps es) (masksOf es) (numberFor key.Depth es) (itemsOf es) (itemBitsOf es) _ refl list n (concluded-text (readingOf kinds.Sheet s .end) _ list n e) in
     record { stop = b .stop; seeds = b .seeds; printed = b .printed; count = b .count; steps = b .steps; shortest = b .shortest }

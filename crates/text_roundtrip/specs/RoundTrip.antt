@@ -1,6 +1,5 @@
 -- From a sheet to its seed list and back to slices (document 01, "Sheet and seed list"; demand 2).
 --     sheetOf s           the entries of the sheet s
---     settingsOf s        its register, and windows of up to 256 slices
 --     setOf s             its test slices
 --     Quoted s list n     the list is that of the sheet s with the stop slice of the steps and n seeds, than which no covering list is shorter
 --     GivesBack s list    expanding the list is accepted with as many slices as the sheet s has, and slice i agrees with slice line i
@@ -11,16 +10,14 @@ use mathlib.Core.List.{List}
 use Prim.Native.Nat.{ℕ, _<_}
 use lib.ListN.{length, getD}
 use mathlib.Core.Option.{some}
-use Rattle.machine_settings.specs.declared.Settings.{Settings}
-use Rattle.machine_settings.specs.Machine.{machine, base}
+use Rattle.machine_settings.specs.Machine.{machine}
 use Rattle.machine_slices.specs.declared.TestSlice.{TestSlice}
 use Rattle.machine_slices.specs.Slices.{agrees, paired}
 use Rattle.stop_steps.specs.Steps.{stopFor}
 use Rattle.theory_covering.specs.Rules.{rules}
 use Rattle.encoder_meaning.specs.Meaning.{Shortest}
-use Rattle.text_keys.specs.declared.Key.the-variants as key
 use Rattle.text_reading.specs.Reading.{readingOf}
-use Rattle.text_entries.specs.Said.{masksOf, rowsOf, rowBitsOf, numberFor}
+use Rattle.text_entries.specs.Said.{masksOf, itemsOf, itemBitsOf, settingsOf}
 use Rattle.text_entries.specs.declared.Entry.{Entry}
 use Rattle.text_order.specs.declared.Kind.the-variants as kinds
 use Rattle.text_write_slices.specs.Slices.{sliceLines}
@@ -32,24 +29,21 @@ abbrev pub sheetOf : List ℕ → List Entry
 sheetOf s = readingOf kinds.Sheet s .entries
 
 abbrev pub setOf : List ℕ → List TestSlice
-setOf s = paired (rowsOf (sheetOf s)) (rowBitsOf (sheetOf s))
-
-abbrev pub settingsOf : List ℕ → Settings
-settingsOf s = base (numberFor key.Cells (sheetOf s)) (numberFor key.Taps (sheetOf s))
+setOf s = paired (itemsOf (sheetOf s)) (itemBitsOf (sheetOf s))
 
 pub record Quoted (s list : List ℕ) (n : ℕ) : Type 0 where
   pub stop : TestSlice
   pub seeds : List ℕ
-  pub printed : list ≡ listText (settingsOf s) (masksOf (sheetOf s)) stop (length (rowsOf (sheetOf s))) seeds
+  pub printed : list ≡ listText (settingsOf (sheetOf s)) (masksOf (sheetOf s)) stop (length (itemsOf (sheetOf s))) seeds
   pub count : length seeds ≡ n
   pub steps : stopFor (length (masksOf (sheetOf s))) (setOf s) ≡ some stop
-  pub shortest : Shortest (machine (settingsOf s) (masksOf (sheetOf s))) (rules (settingsOf s) stop) (setOf s) seeds
+  pub shortest : Shortest (machine (settingsOf (sheetOf s)) (masksOf (sheetOf s))) (rules (settingsOf (sheetOf s)) stop) (setOf s) seeds
 
 pub record GivesBack (s list : List ℕ) : Type 0 where
   pub slices : List ℕ
   pub expands : expandReply list ≡ text (sliceLines (length (masksOf (sheetOf s))) slices) (length slices)
-  pub whole : length slices ≡ length (rowsOf (sheetOf s))
-  pub agree : (i : ℕ) (t : TestSlice) → i < length (rowsOf (sheetOf s)) → agrees (getD (setOf s) i t) (getD slices i 0) ≡ true
+  pub whole : length slices ≡ length (itemsOf (sheetOf s))
+  pub agree : (i : ℕ) (t : TestSlice) → i < length (itemsOf (sheetOf s)) → agrees (getD (setOf s) i t) (getD slices i 0) ≡ true
 
 abbrev pub NotShort : Reply → Type 0
 NotShort r = RefusedBy (λ n. n ≡ 9 → ⊥) r

@@ -82,7 +82,7 @@ pub fn end_of(place: Place, n: usize) -> Scanned
     ensures { λ r. ⌜ r ≡ endOf place n ⌝ }
 {
     let due = place.due;
-    if text_place::is_row(due) {
+    if text_place::is_item(due) {
         Scanned::Whole(place)
     } else {
         Scanned::Refused(refused_at(LineCause::Form, n))

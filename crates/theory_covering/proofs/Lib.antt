@@ -1,6 +1,7 @@
 -- The laws of covering and of the windows of a set.
 pub mod Tail
 pub mod Places
+pub mod Segments
 pub mod Windows
 pub mod Zero
 pub mod Single

@@ -1,7 +1,7 @@
 -- Laws of the places of windows.
 --     far-mono, far-le       the farthest end rises with the start and stays within the set
 --     placed-parts, parts-placed     what a placed window is
---     far-rules              in the base: the end of the set or the limit
+--     far-segment            in a segment: its end or the limit
 --     placed-base            in the base: 1 to 256 slices, within the set
 --     suffix-placed          the rest of a placed window is placed
 --     part-cons              the first slice of a part, and the rest
@@ -21,7 +21,7 @@ use Rattle.theory_cutting.specs.Meaning.{Suffix}
 use Rattle.machine_settings.specs.declared.Settings.{Settings}
 use Rattle.machine_settings.specs.Machine.{base}
 use Rattle.machine_slices.specs.declared.TestSlice.{TestSlice}
-use Rattle.theory_covering.specs.Rules.{Rules, rules}
+use Rattle.theory_covering.specs.Rules.{Rules, segmentRules, rules}
 use Rattle.theory_covering.specs.Windows.{part, before, far, placed}
 
 before-mono : (es : List ℕ) (i j m n : ℕ) → i ≤ j → m ≤ n → before es i m ≤ before es j n
@@ -63,9 +63,9 @@ pub parts-placed : (R : Rules) (n i k : ℕ) → i < k → k ≤ far R n i → p
 unfolding placed
 parts-placed R n i k a b = and-yes (ltb i k) (leb k (far R n i)) (lt-ltb i k a) (le-leb k (far R n i) b)
 
-pub far-rules : (g : Settings) (stop : TestSlice) (n i : ℕ) → far (rules g stop) n i ≡ min n (i + g .limit)
+pub far-segment : (g : Settings) (stop : TestSlice) (closing : Bool) (n i : ℕ) → far (segmentRules g stop closing) n i ≡ min n (i + g .limit)
 unfolding far before
-far-rules g stop n i = refl
+far-segment g stop closing n i = refl
 
 pub placed-base : (cells taps : ℕ) (stop : TestSlice) (n i k : ℕ) → (placed (rules (base cells taps) stop) n i k ≡ true) ↔ ((i < k) × (k ≤ n) × (k ≤ i + 256))
 unfolding far before

@@ -1,7 +1,8 @@
 -- How the windows of a set are placed, closed and stopped (document 01, "Covering and cutting"): what may differ from one call to another without a change of the definitions.
 --     Rules          limit: the most slices of a window; edges: places that no window crosses; live: the stop slice of a window that starts at a place; openEnd: the window that ends the set need not close with its stop
---     rules g stop   document 01's rules under a call's settings: no edge, one stop slice, and every seed, the last included, ends in it
-use mathlib.Core.Bool.{Bool, false}
+--     segmentRules g stop closing   the rules of a segment under a call's settings: no edge within, one stop slice, and a window that ends the segment closes with its stop where `closing` says so
+--     rules g stop   document 01's rules: the set is one segment, and every seed, the last included, ends in its stop
+use mathlib.Core.Bool.{Bool, true, not}
 use mathlib.Core.List.{List, []}
 use Prim.Native.Nat.{ℕ}
 use Rattle.machine_settings.specs.declared.Settings.{Settings}
@@ -13,5 +14,8 @@ pub record Rules : Type 0 where
   pub live : ℕ → TestSlice
   pub openEnd : Bool
 
+abbrev pub segmentRules : Settings → TestSlice → Bool → Rules
+segmentRules g stop closing = record { limit = g .limit; edges = []; live = λ _. stop; openEnd = not closing }
+
 abbrev pub rules : Settings → TestSlice → Rules
-rules g stop = record { limit = g .limit; edges = []; live = λ _. stop; openEnd = false }
+rules g stop = segmentRules g stop true

@@ -8,7 +8,7 @@ use mathlib.Core.List.{List}
 use Prim.Native.Nat.{ℕ}
 use lib.ListN.{length}
 use Rattle.search_space.specs.declared.Space.{Space}
-use Rattle.search_rows.specs.Clauses.{row}
+use Rattle.search_rows.specs.Rows.{row}
 use Rattle.machine_slices.specs.declared.TestSlice.{TestSlice}
 use Rattle.window_rows.specs.Meeting.{meets, allMeet}
 use Rattle.window_rows.specs.Narrowing.{Narrows}

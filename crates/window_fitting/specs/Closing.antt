@@ -5,7 +5,7 @@ use mathlib.Core.Bool.{Bool, not, _&&_, _||_}
 use mathlib.Core.List.{List}
 use Prim.Native.Nat.{ℕ}
 use lib.ListN.{length}
-use Rattle.search_rows.specs.Clauses.{row}
+use Rattle.search_rows.specs.Rows.{row}
 use Rattle.machine_slices.specs.declared.TestSlice.{TestSlice}
 use Rattle.window_rows.specs.Meeting.{meets, allMeet}
 

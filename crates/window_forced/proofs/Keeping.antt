@@ -8,7 +8,7 @@ use Prim.Native.Nat.{ℕ, _<_}
 use lib.ListN.{take}
 use Rattle.search_space.specs.declared.Space.{Space}
 use Rattle.search_rows.specs.declared.Pattern.{Pattern}
-use Rattle.search_rows.specs.Clauses.{clear}
+use Rattle.search_rows.specs.Rows.{clear}
 use Rattle.search_rows.proofs.Reading.{clear-at}
 use Rattle.search_forcing.specs.Forcing.{forced, forcedVectors}
 use Rattle.search_forcing.proofs.Forcing.{forced-sound, forced-complete, forced-rising}

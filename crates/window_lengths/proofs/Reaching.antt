@@ -24,10 +24,10 @@ use Rattle.machine_slices.specs.declared.TestSlice.{TestSlice}
 use Rattle.machine_slices.specs.Slices.{badSlice, badSlices, paired}
 use Rattle.machine_slices.proofs.Formed.{slices-length, slices-all, slices-take, paired-take}
 use Rattle.search_rows.specs.declared.Pattern.{Pattern}
-use Rattle.search_rows.specs.Clauses.{clear}
+use Rattle.search_rows.specs.Rows.{clear}
 use Rattle.theory_covering.specs.Covering.{covers, seedOf}
 use Rattle.theory_covering.specs.Windows.{found}
-use Rattle.window_tables.specs.Ready.{Ready}
+use Rattle.window_tables.specs.Tables.{Tables}
 use Rattle.window_rows.specs.Meeting.{allMeet}
 use Rattle.window_rows.specs.Most.{Most}
 use Rattle.window_fitting.specs.Closing.{allowed}
@@ -71,20 +71,20 @@ module _ (M : Machine) (stop : TestSlice) (closing : Bool) (w : List TestSlice) 
 -- ---- where no state meets the slices and is clear, there is no seed
 
 -- who covers a window meets its slices and is clear in their rows
-unmet : (g : Settings) (masks : List ℕ) (stop : TestSlice) (p : Pattern) (table clauses : List ℕ) (n : ℕ) (w : List TestSlice) → Ready g masks stop p table clauses n → length w < n → any (badSlice (length masks)) w ≡ false
-    → (closing : Bool) → ((s : ℕ) → s < 2 ^ g .cells → quietMeet (length masks) table p clauses w s ≡ false) → seedOf (machine g masks) stop closing w ≡ none
+unmet : (g : Settings) (masks : List ℕ) (stop : TestSlice) (p : Pattern) (table stops : List ℕ) (n : ℕ) (w : List TestSlice) → Tables g masks stop p table stops n → length w < n → any (badSlice (length masks)) w ≡ false
+    → (closing : Bool) → ((s : ℕ) → s < 2 ^ g .cells → quietMeet (length masks) table p stops w s ≡ false) → seedOf (machine g masks) stop closing w ≡ none
 unfolding seedOf allowed quietMeet
-unmet g masks stop p table clauses n w r h f closing u = none-of (covers (machine g masks) stop closing w) (2 ^ g .cells) (λ s l.
+unmet g masks stop p table stops n w r h f closing u = none-of (covers (machine g masks) stop closing w) (2 ^ g .cells) (λ s l.
     fails (covers (machine g masks) stop closing w s) (λ t.
     let q = allMeet (length masks) table 0 w s in
-    let k = clear p clauses (length w) s in
-    let a = both (allowed (length masks) table stop closing w s) k (sym (covers-tables g masks stop p table clauses n r w closing s h f) ∙ t) in
-    clash (quietMeet (length masks) table p clauses w s) (and-yes q k (both q _ (a .0) .0) (a .1)) (u s l)))
+    let k = clear p stops (length w) s in
+    let a = both (allowed (length masks) table stop closing w s) k (sym (covers-tables g masks stop p table stops n r w closing s h f) ∙ t) in
+    clash (quietMeet (length masks) table p stops w s) (and-yes q k (both q _ (a .0) .0) (a .1)) (u s l)))
 
 -- ---- the loop's start, and the length that it tries
 
-module _ (g : Settings) (masks : List ℕ) (stop : TestSlice) (p : Pattern) (table clauses ps bs : List ℕ)
-    (r : Ready g masks stop p table clauses (suc (length ps))) (b : badSlices (length masks) ps bs ≡ false) (closing : Bool) where
+module _ (g : Settings) (masks : List ℕ) (stop : TestSlice) (p : Pattern) (table stops ps bs : List ℕ)
+    (r : Tables g masks stop p table stops (suc (length ps))) (b : badSlices (length masks) ps bs ≡ false) (closing : Bool) where
   abbrev M : Machine
   M = machine g masks
 
@@ -94,12 +94,12 @@ module _ (g : Settings) (masks : List ℕ) (stop : TestSlice) (p : Pattern) (tab
   long : length w ≡ length ps
   long = slices-length (length masks) ps bs b
 
-  pub passed-start : (k : ℕ) → Most (quietMeet (length masks) table p clauses) w (g .cells) k → Passed M stop closing w k
+  pub passed-start : (k : ℕ) → Most (quietMeet (length masks) table p stops) w (g .cells) k → Passed M stop closing w k
   unfolding seedFor
   passed-start k u = record {
     within = u .within;
     longer = λ j l m.
-        unmet g masks stop p table clauses (suc (length ps)) (take j w) r (omega (arith, long, length-take j w))
+        unmet g masks stop p table stops (suc (length ps)) (take j w) r (omega (arith, long, length-take j w))
         (rw (sym (paired-take j ps bs)) (slices-all (length masks) (take j ps) (take j bs) (slices-take (length masks) j ps bs b)))
         (closesAt closing w j) (λ s h. u .more j s l m h);
   }

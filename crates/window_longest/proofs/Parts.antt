@@ -20,10 +20,10 @@ use Rattle.window_quiet.specs.Quiet.{quietMeet}
 use Rattle.window_growing.specs.Growing.{HeldAt, Grown}
 
 -- the spaces of a part that is cut off where no state is quiet any more
-pub grown-part : (c : ℕ) (table : List ℕ) (p : Pattern) (clauses ps bs : List ℕ) (b : badSlices c ps bs ≡ false) (cells : ℕ) (spaces : List ℕ) (q k : ℕ) → Most (quietMeet c table p clauses) (paired ps bs) cells q
-    → Grown (allMeet c table 0) c table (paired (take q ps) (take q bs)) cells spaces k → Grown (quietMeet c table p clauses) c table (paired ps bs) cells spaces k
+pub grown-part : (c : ℕ) (table : List ℕ) (p : Pattern) (stops ps bs : List ℕ) (b : badSlices c ps bs ≡ false) (cells : ℕ) (spaces : List ℕ) (q k : ℕ) → Most (quietMeet c table p stops) (paired ps bs) cells q
+    → Grown (allMeet c table 0) c table (paired (take q ps) (take q bs)) cells spaces k → Grown (quietMeet c table p stops) c table (paired ps bs) cells spaces k
 unfolding quietMeet
-grown-part c table p clauses ps bs b cells spaces q k u g = record {
+grown-part c table p stops ps bs b cells spaces q k u g = record {
   most = record {
     within = omega (arith, u .within, few);
     more = λ j s l m h. ⊎-elim

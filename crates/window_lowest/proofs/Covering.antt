@@ -1,9 +1,9 @@
--- Covering is what the tables say: the equations of the window's bits and its closing stop, and the clauses of the stop.
+-- Covering is what the tables say: the equations of the window's bits and its closing stop, and the rows of the stop's table.
 --     agrees-meets        a slice agrees with a well-formed test slice where each specified position reads its bit
 --     meets-pulled        read after t steps, or before them through masks pulled back
 --     meets-chosen        the specified positions alone read the same
 --     fits-allowed        the equations
---     quiet-clear         the clauses
+--     quiet-clear         the rows of the stop's table
 --     covers-tables       both: a state covers a window
 -- Assumes nothing.
 use mathlib.Core.Path.{_≡_, refl, sym, ap, ap₂, _∙_}
@@ -33,13 +33,13 @@ use Rattle.machine_slices.specs.declared.TestSlice.{TestSlice}
 use Rattle.machine_slices.specs.Slices.{agrees, shows, badSlice}
 use Rattle.machine_slices.proofs.Formed.{Formed, slice-formed, stop-slice}
 use Rattle.search_rows.specs.declared.Pattern.{Pattern}
-use Rattle.search_rows.specs.Clauses.{row, reads, shown, clear}
+use Rattle.search_rows.specs.Rows.{row, reads, shown, clear}
 use Rattle.search_rows.proofs.Reading.{clear-at, none-clear}
 use Rattle.search_table.specs.Chosen.{chosen, packed}
 use Rattle.search_table.proofs.Choosing.{chosen-take, chosen-skip, chosen-map}
 use Rattle.search_table.proofs.Packing.{packed-take, packed-skip}
 use Rattle.theory_covering.specs.Covering.{fits, quiet, covers}
-use Rattle.window_tables.specs.Ready.{Ready}
+use Rattle.window_tables.specs.Tables.{Tables}
 use Rattle.window_rows.specs.Meeting.{meets, allMeet}
 use Rattle.window_fitting.specs.Closing.{allowed, closed}
 use Rattle.window_rows.proofs.Meeting.{meets-take, meets-skip}
@@ -114,7 +114,7 @@ module _ (cells taps : ℕ) (some : 0 < cells) (tapped : taps < 2 ^ cells) where
 
 -- ---- the whole window
 
-module _ (g : Settings) (masks : List ℕ) (stop : TestSlice) (p : Pattern) (table clauses : List ℕ) (n : ℕ) (r : Ready g masks stop p table clauses n) where
+module _ (g : Settings) (masks : List ℕ) (stop : TestSlice) (p : Pattern) (table stops : List ℕ) (n : ℕ) (r : Tables g masks stop p table stops n) where
   abbrev M : Machine
   M = machine g masks
 
@@ -136,15 +136,15 @@ module _ (g : Settings) (masks : List ℕ) (stop : TestSlice) (p : Pattern) (tab
   stop-formed : Formed c stop
   stop-formed = slice-formed c stop (stop-slice c stop (r .stop))
 
-  -- it shows the stop: row t of the clauses
-  shows-row : (t s : ℕ) → t < n → shows stop (M .slice (run t s)) ≡ shown p clauses t s
+  -- it shows the stop: row t of the stop's table
+  shows-row : (t s : ℕ) → t < n → shows stop (M .slice (run t s)) ≡ shown p stops t s
   unfolding shows shown
   shows-row t s h =
       agrees-row stop t s h stop-formed
       ∙ ap (λ (l : List ℕ). meets l (stop .specified) (stop .bits) s) (r .table .rows t h)
       ∙ sym (meets-chosen (map (pulls (g .taps) t) masks) (stop .specified) (stop .bits) s)
       ∙ ap₂ (λ (l : List ℕ) (k : ℕ). reads l (packed (stop .specified) (stop .bits) k) s) (chosen-map (pulls (g .taps) t) (stop .specified) masks) (length-map masks (pulls (g .taps) t))
-      ∙ sym (rw (r .pattern) (ap (λ (l : List ℕ). reads l (packed (stop .specified) (stop .bits) c) s) (r .clauses .rows t h)))
+      ∙ sym (rw (r .pattern) (ap (λ (l : List ℕ). reads l (packed (stop .specified) (stop .bits) c) s) (r .stops .rows t h)))
 
   fits-from : (w : List TestSlice) (closing : Bool) (t s : ℕ) → t + length w < n → any (badSlice c) w ≡ false
       → fits M stop closing w (run t s) ≡ (allMeet c table t w s && (not closing || meets (row c table (t + length w)) (stop .specified) (stop .bits) s))
@@ -158,7 +158,7 @@ module _ (g : Settings) (masks : List ℕ) (stop : TestSlice) (p : Pattern) (tab
       (ap (λ (b : Bool). meets (row c table t) (x .specified) (x .bits) s && b) (fits-from w closing (suc t) s (omega arith) (a .1))
       ∙ sym (and-assoc (meets (row c table t) (x .specified) (x .bits) s) (allMeet c table (suc t) w s) close))
 
-  quiet-at : (m t s : ℕ) → t + m ≤ n → quiet M stop m (run t s) ≡ true → (u : ℕ) → u < m → shown p clauses (t + u) s ≡ false
+  quiet-at : (m t s : ℕ) → t + m ≤ n → quiet M stop m (run t s) ≡ true → (u : ℕ) → u < m → shown p stops (t + u) s ≡ false
   unfolding quiet steps
   quiet-at zero t s h q u l = absurd (omega arith)
   quiet-at (suc m) t s h q zero l =
@@ -168,7 +168,7 @@ module _ (g : Settings) (masks : List ℕ) (stop : TestSlice) (p : Pattern) (tab
       let e : t + suc u ≡ suc t + u = omega arith in
       rw e (quiet-at m (suc t) s (omega arith) (both (not (shows stop (M .slice (run t s)))) (quiet M stop m (run (suc t) s)) q .1) u (omega arith))
 
-  at-quiet : (m t s : ℕ) → t + m ≤ n → ((u : ℕ) → u < m → shown p clauses (t + u) s ≡ false) → quiet M stop m (run t s) ≡ true
+  at-quiet : (m t s : ℕ) → t + m ≤ n → ((u : ℕ) → u < m → shown p stops (t + u) s ≡ false) → quiet M stop m (run t s) ≡ true
   unfolding quiet steps
   at-quiet zero t s h f = refl
   at-quiet (suc m) t s h f =
@@ -177,17 +177,17 @@ module _ (g : Settings) (masks : List ℕ) (stop : TestSlice) (p : Pattern) (tab
       (ap not (shows-row t s (omega arith) ∙ (rw e at (f 0 (zero-lt-suc m)))))
       (at-quiet m (suc t) s (omega arith) (λ u l. (let q : suc t + u ≡ t + suc u = omega arith in rw q (f (suc u) (omega arith)))))
 
-  quiet-clear : (m s : ℕ) → m ≤ n → quiet M stop m s ≡ clear p clauses m s
+  quiet-clear : (m s : ℕ) → m ≤ n → quiet M stop m s ≡ clear p stops m s
   unfolding steps
-  quiet-clear m s h = alike (quiet M stop m s) (clear p clauses m s)
-      (λ q. none-clear p clauses s m (λ u l. (let e : 0 + u ≡ u = omega arith in rw e at (quiet-at m 0 s (omega arith) q u l))))
-      (λ q. at-quiet m 0 s (omega arith) (λ u l. (let e : 0 + u ≡ u = omega arith in rw e (clear-at p clauses s m u q l))))
+  quiet-clear m s h = alike (quiet M stop m s) (clear p stops m s)
+      (λ q. none-clear p stops s m (λ u l. (let e : 0 + u ≡ u = omega arith in rw e at (quiet-at m 0 s (omega arith) q u l))))
+      (λ q. at-quiet m 0 s (omega arith) (λ u l. (let e : 0 + u ≡ u = omega arith in rw e (clear-at p stops s m u q l))))
 
   fits-allowed : (w : List TestSlice) (closing : Bool) (s : ℕ) → length w < n → any (badSlice c) w ≡ false → fits M stop closing w s ≡ allowed c table stop closing w s
   unfolding allowed closed steps
   fits-allowed w closing s h f = let e : 0 + length w ≡ length w = omega arith in (rw e at (fits-from w closing 0 s (omega arith) f))
 
   pub covers-tables : (w : List TestSlice) (closing : Bool) (s : ℕ) → length w < n → any (badSlice c) w ≡ false
-      → covers M stop closing w s ≡ (allowed c table stop closing w s && clear p clauses (length w) s)
+      → covers M stop closing w s ≡ (allowed c table stop closing w s && clear p stops (length w) s)
   unfolding covers
   covers-tables w closing s h f = ap₂ (λ (a b : Bool). a && b) (fits-allowed w closing s h f) (quiet-clear (length w) s (omega arith))

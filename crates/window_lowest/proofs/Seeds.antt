@@ -22,10 +22,10 @@ use Rattle.machine_slices.proofs.Formed.{slices-length, slices-all}
 use Rattle.search_space.specs.declared.Space.{Space}
 use Rattle.search_space.specs.Space.{among, Rising}
 use Rattle.search_rows.specs.declared.Pattern.{Pattern}
-use Rattle.search_rows.specs.Clauses.{clear}
+use Rattle.search_rows.specs.Rows.{clear}
 use Rattle.search_found.specs.Search.{foundOf, lowestClear}
 use Rattle.theory_covering.specs.Covering.{covers, seedOf}
-use Rattle.window_tables.specs.Ready.{Ready}
+use Rattle.window_tables.specs.Tables.{Tables}
 use Rattle.window_rows.specs.Meeting.{allMeet}
 use Rattle.window_rows.specs.Narrowing.{allStates, unitsOf, Narrows}
 use Rattle.window_rows.proofs.Narrowing.{some-member}
@@ -36,11 +36,11 @@ use Rattle.window_forced.specs.Keeping.{Keeps}
 use Rattle.window_lowest.proofs.Covering.{covers-tables}
 
 -- from the states that meet the slices (x) over those of them that close the window (y) to what forced positions leave (z)
-module _ (g : Settings) (masks : List ℕ) (stop : TestSlice) (p : Pattern) (table clauses ps bs : List ℕ)
-    (r : Ready g masks stop p table clauses (suc (length ps))) (b : badSlices (length masks) ps bs ≡ false) (closing : Bool)
+module _ (g : Settings) (masks : List ℕ) (stop : TestSlice) (p : Pattern) (table stops ps bs : List ℕ)
+    (r : Tables g masks stop p table stops (suc (length ps))) (b : badSlices (length masks) ps bs ≡ false) (closing : Bool)
     (x : Space) (us : List ℕ) (met : Narrows (allMeet (length masks) table 0 (paired ps bs)) (allStates (g .cells)) (unitsOf (g .cells)) x us)
     (y : Space) (vs : List ℕ) (shut : Narrows (closed (length masks) table stop closing (length ps)) x us y vs)
-    (z : Space) (ws : List ℕ) (kept : Keeps (clear p clauses (length ps)) y vs z ws) where
+    (z : Space) (ws : List ℕ) (kept : Keeps (clear p stops (length ps)) y vs z ws) where
   abbrev M : Machine
   M = machine g masks
 
@@ -51,7 +51,7 @@ module _ (g : Settings) (masks : List ℕ) (stop : TestSlice) (p : Pattern) (tab
   A = allowed (length masks) table stop closing w
 
   abbrev C : ℕ → Bool
-  C = clear p clauses (length ps)
+  C = clear p stops (length ps)
 
   few : g .cells ≤ 64
   few = cells-within (g .cells) (g .taps) (r .register) .1
@@ -63,8 +63,8 @@ module _ (g : Settings) (masks : List ℕ) (stop : TestSlice) (p : Pattern) (tab
   cut = allowed-closed (length masks) table stop w (allStates (g .cells)) (unitsOf (g .cells)) x us y vs closing (length ps) long met shut
 
   covers-rows : (s : ℕ) → covers M stop closing w s ≡ (A s && C s)
-  covers-rows s = subst (λ (n : ℕ). covers M stop closing w s ≡ (A s && clear p clauses n s)) long
-      (covers-tables g masks stop p table clauses (suc (length ps)) r w closing s (omega (arith, long)) (slices-all (length masks) ps bs b))
+  covers-rows s = subst (λ (n : ℕ). covers M stop closing w s ≡ (A s && clear p stops n s)) long
+      (covers-tables g masks stop p table stops (suc (length ps)) r w closing s (omega (arith, long)) (slices-all (length masks) ps bs b))
 
   pub seed-none : z .some ≡ false → seedOf M stop closing w ≡ none
   unfolding seedOf
@@ -76,7 +76,7 @@ module _ (g : Settings) (masks : List ℕ) (stop : TestSlice) (p : Pattern) (tab
   pub seed-rising : z .some ≡ true → Rising (z .lowest) 0 ws
   seed-rising e = kept .rising (cut .rising (states-rising (g .cells) few) (kept .sound (z .lowest) (some-member z ws e) .0)) e
 
-  pub seed-lowest : z .some ≡ true → lowestClear p clauses (length ps) (z .lowest) ws ≡ foundOf (seedOf M stop closing w)
+  pub seed-lowest : z .some ≡ true → lowestClear p stops (length ps) (z .lowest) ws ≡ foundOf (seedOf M stop closing w)
   unfolding seedOf lowestClear
   seed-lowest e = ap foundOf (least-same (λ s. among (z .lowest) ws s && C s) (covers M stop closing w) (2 ^ 64) (2 ^ g .cells)
       (λ s l t.

@@ -14,7 +14,7 @@ use Rattle.words_bounded.proofs.Tests.{both, clash, fails}
 use Rattle.search_space.specs.declared.Space.{Space}
 use Rattle.search_space.specs.Space.{Member}
 use Rattle.search_rows.specs.declared.Pattern.{Pattern}
-use Rattle.search_rows.specs.Clauses.{row, clear}
+use Rattle.search_rows.specs.Rows.{row, clear}
 use Rattle.search_rows.proofs.Reading.{clear-at, clear-front}
 use Rattle.machine_slices.specs.declared.TestSlice.{TestSlice}
 use Rattle.machine_slices.specs.Slices.{paired, badSlices}
@@ -30,32 +30,32 @@ use Rattle.window_rows.proofs.States.{states-complete}
 use Rattle.window_quiet.specs.Quiet.{quietMeet}
 
 abbrev pub Quiet : ℕ → List ℕ → Pattern → List ℕ → List TestSlice → ℕ → ℕ → Space → List ℕ → Type 0
-Quiet c table p clauses w cells k y vs = (s : ℕ) → s < 2 ^ cells → allMeet c table 0 (take k w) s ≡ true → clear p clauses k s ≡ true → Member y vs s
+Quiet c table p stops w cells k y vs = (s : ℕ) → s < 2 ^ cells → allMeet c table 0 (take k w) s ≡ true → clear p stops k s ≡ true → Member y vs s
 
-module _ (c : ℕ) (table : List ℕ) (p : Pattern) (clauses ps bs : List ℕ) (b : badSlices c ps bs ≡ false) (cells : ℕ) where
+module _ (c : ℕ) (table : List ℕ) (p : Pattern) (stops ps bs : List ℕ) (b : badSlices c ps bs ≡ false) (cells : ℕ) where
   abbrev w : List TestSlice
   w = paired ps bs
 
   abbrev So : ℕ → Space → List ℕ → Type 0
-  So = Quiet c table p clauses w cells
+  So = Quiet c table p stops w cells
 
   pub quiet-start : cells ≤ 64 → So 0 (allStates cells) (unitsOf cells)
   quiet-start few s h a k = states-complete cells few s h
 
   pub quiet-next : (k : ℕ) (y : Space) (vs : List ℕ) (z : Space) (l : List ℕ) (r : Space) (out : List ℕ) → k < length ps → So k y vs
-      → Narrows (meets (row c table k) (sliceAt ps bs k .specified) (sliceAt ps bs k .bits)) y vs z (take (z .free) l) → Entered z l p clauses k r out → So (k + 1) r (take (r .free) out)
+      → Narrows (meets (row c table k) (sliceAt ps bs k .specified) (sliceAt ps bs k .bits)) y vs z (take (z .free) l) → Entered z l p stops k r out → So (k + 1) r (take (r .free) out)
   quiet-next k y vs z l r out h q n e s u a d =
-      let f : clear p clauses k s ≡ true = clear-front p clauses s (k + 1) k (omega arith) d in
-      rw (forced-left z l p clauses k r out (e .0) (e .1), e .0) (forced-complete p clauses k (take (z .free) l) z s
+      let f : clear p stops k s ≡ true = clear-front p stops s (k + 1) k (omega arith) d in
+      rw (forced-left z l p stops k r out (e .0) (e .1), e .0) (forced-complete p stops k (take (z .free) l) z s
       (n .complete s (q s u (meet-front c table w 0 k (k + 1) s (omega arith) a) f) (meet-at c table ps bs b (allStates cells) (unitsOf cells) k s h a))
-      (clear-at p clauses s (k + 1) k d (omega arith)))
+      (clear-at p stops s (k + 1) k d (omega arith)))
 
-  pub quiet-stop : (k : ℕ) (y : Space) (vs : List ℕ) → k < length ps → So (k + 1) y vs → y .some ≡ false → Most (quietMeet c table p clauses) w cells k
+  pub quiet-stop : (k : ℕ) (y : Space) (vs : List ℕ) → k < length ps → So (k + 1) y vs → y .some ≡ false → Most (quietMeet c table p stops) w cells k
   unfolding quietMeet
   quiet-stop k y vs h q e = record {
     within = omega (arith, slices-length c ps bs b);
-    more = λ j s l m u. fails (quietMeet c table p clauses (take j w) s) (λ t.
+    more = λ j s l m u. fails (quietMeet c table p stops (take j w) s) (λ t.
         let n = length (take j w) in
-        let d = both (allMeet c table 0 (take j w) s) (clear p clauses n s) t in
-        clash (y .some) (q s u (meet-front c table w 0 (k + 1) j s (omega arith) (d .0)) (clear-front p clauses s n (k + 1) (omega (arith, length-take-le j w m)) (d .1)) .0) e);
+        let d = both (allMeet c table 0 (take j w) s) (clear p stops n s) t in
+        clash (y .some) (q s u (meet-front c table w 0 (k + 1) j s (omega arith) (d .0)) (clear-front p stops s n (k + 1) (omega (arith, length-take-le j w m)) (d .1)) .0) e);
   }

@@ -17,15 +17,15 @@ pub fn most_quiet(
     cells: usize,
     pattern: Pattern,
     table: &[u64],
-    clauses: &[u64],
+    stops: &[u64],
     chains: usize,
     specified: &[u64],
     bits: &[u64],
 ) -> usize
     requires slices { ⌜ badSlices chains (now specified) (now bits) ≡ false ⌝ }
     requires table { ⌜ length (now specified) * chains ≤ length (now table) ⌝ }
-    requires clauses { ⌜ (cells ≤ 64) × (length (now specified) * pattern .columns ≤ length (now clauses)) ⌝ }
-    ensures { λ r. ⌜ Most (quietMeet chains (now (table .entry)) pattern (now (clauses .entry))) (paired (now (specified .entry)) (now (bits .entry))) cells r ⌝ }
+    requires stops { ⌜ (cells ≤ 64) × (length (now specified) * pattern .columns ≤ length (now stops)) ⌝ }
+    ensures { λ r. ⌜ Most (quietMeet chains (now (table .entry)) pattern (now (stops .entry))) (paired (now (specified .entry)) (now (bits .entry))) cells r ⌝ }
 {
     let mut vectors = search_space::units();
     let mut kept = Space {
@@ -40,7 +40,7 @@ pub fn most_quiet(
             bits: bits[slice],
         };
         kept = window_rows::meet_row(&mut vectors, kept, table, chains, slice, test);
-        kept = search_forcing::force_row(pattern, clauses, slice, &mut vectors, kept);
+        kept = search_forcing::force_row(pattern, stops, slice, &mut vectors, kept);
         if !kept.some {
             return slice;
         }

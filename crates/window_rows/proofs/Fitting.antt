@@ -18,7 +18,7 @@ use lib.Seq.{take-all}
 use Rattle.words_bounded.proofs.Tests.{clash, fails, both, and-yes}
 use Rattle.search_space.specs.declared.Space.{Space}
 use Rattle.search_space.specs.Space.{Member}
-use Rattle.search_rows.specs.Clauses.{row}
+use Rattle.search_rows.specs.Rows.{row}
 use Rattle.search_rows.proofs.Reading.{row-fits}
 use Rattle.machine_slices.specs.declared.TestSlice.{TestSlice}
 use Rattle.machine_slices.specs.Slices.{paired, badSlices}

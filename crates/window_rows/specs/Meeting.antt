@@ -6,7 +6,7 @@ use mathlib.Core.List.{List, [], _∷_}
 use Prim.Native.Nat.{ℕ, suc, _/_, _%_}
 use lib.Dec.{eqb}
 use Rattle.words_gf2.specs.Words.{odd}
-use Rattle.search_rows.specs.Clauses.{row}
+use Rattle.search_rows.specs.Rows.{row}
 use Rattle.machine_slices.specs.declared.TestSlice.{TestSlice}
 
 unfoldable pub meets : List ℕ → ℕ → ℕ → ℕ → Bool

@@ -3,7 +3,7 @@ use machine_slices::TestSlice;
 use search_space::Space;
 ghost use Prim.Native.Nat.{_+_, _*_, _^_, _<_, _≤_};
 ghost use lib.ListN.{length, take};
-ghost use Rattle.search_rows.specs.Clauses.{row as rowOf};
+ghost use Rattle.search_rows.specs.Rows.{row as rowOf};
 ghost use Rattle.window_rows.specs.Meeting.{meets};
 ghost use Rattle.window_rows.specs.Narrowing.{Narrows};
 

@@ -6,11 +6,12 @@ use refusal_order::Verdict;
 use search_found::Found;
 use theory_covering::Seed;
 use window_tables::MOST_ENTRIES;
+use window_tables::Sought;
 ghost use mathlib.Core.Bool.{true};
 ghost use mathlib.Core.Option.{Option};
 ghost use mathlib.Core.Path.{_≡_};
-ghost use Prim.Native.Nat.{ℕ, _≤_};
-ghost use Rattle.machine_settings.specs.Machine.{base, machine};
+ghost use Prim.Native.Nat.{ℕ};
+ghost use Rattle.machine_settings.specs.Machine.{machine};
 ghost use Rattle.machine_slices.specs.Slices.{paired};
 ghost use Rattle.refusal_order.specs.Order.{judged};
 ghost use Rattle.refusal_checks.specs.Calls.{windowFaults};
@@ -37,42 +38,36 @@ fn seed_of(
     specified: &[u64],
     bits: &[u64],
 ) -> Seed
-    requires { ⌜ (judged (windowFaults settings (now masks) stop (now specified) (now bits)) ≡ verdict.WellFormed) × (settings .limit ≤ 256) ⌝ }
+    requires { ⌜ judged (windowFaults settings (now masks) stop (now specified) (now bits)) ≡ verdict.WellFormed ⌝ }
     ensures { λ r. ⌜ r ≡ lowestOr7 (seedOf (machine settings (now (masks .entry))) stop true (paired (now (specified .entry)) (now (bits .entry)))) ⌝ }
 {
     let mut table = [0u64; MOST_ENTRIES];
-    let mut clauses = [0u64; MOST_ENTRIES];
+    let mut stops = [0u64; MOST_ENTRIES];
     let taps = settings.taps;
     let rows = specified.len() + 1;
     search_table::fill(taps, masks, rows, &mut table);
-    let pattern = window_tables::fill_clauses(taps, masks, stop, rows, &mut clauses);
-    let found = window_lowest::found_anew(
+    let pattern = window_tables::fill_stops(taps, masks, stop, rows, &mut stops);
+    let sought = Sought {
         settings,
-        masks,
         stop,
         pattern,
-        &table,
-        &clauses,
-        true,
-        specified,
-        bits,
-    );
+        closing: true,
+    };
+    let found = window_lowest::found_anew(sought, masks, &table, &stops, specified, bits);
     answer(found)
 }
 
 // The seed of a window: the lowest state that covers it, or the first of causes 1 to 5 that holds, then 7.
 pub fn window_seed(
-    cells: usize,
-    taps: u64,
+    settings: Settings,
     masks: &[u64],
     stop: TestSlice,
     specified: &[u64],
     bits: &[u64],
 ) -> Seed
-    ensures answer { λ r. ⌜ r ≡ windowSeed (base cells taps) (now (masks .entry)) stop (now (specified .entry)) (now (bits .entry)) ⌝ }
-    ensures meaning { λ r. ⌜ WindowMeaning (base cells taps) (now (masks .entry)) stop (now (specified .entry)) (now (bits .entry)) r ⌝ }
+    ensures answer { λ r. ⌜ r ≡ windowSeed settings (now (masks .entry)) stop (now (specified .entry)) (now (bits .entry)) ⌝ }
+    ensures meaning { λ r. ⌜ WindowMeaning settings (now (masks .entry)) stop (now (specified .entry)) (now (bits .entry)) r ⌝ }
 {
-    let settings = machine_settings::base(cells, taps);
     let verdict = refusal_checks::check_window(settings, masks, stop, specified, bits);
     match verdict {
         Verdict::Refused(cause) => Seed::Refused(cause),

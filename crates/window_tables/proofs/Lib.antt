@@ -1,4 +1,4 @@
 -- The laws of the tables.
 
-pub mod Clauses
+pub mod Chosen
 pub mod Tables

@@ -1,7 +1,7 @@
 -- The tables that a call fills, as the search relies on them.
 --     table-room           the most entries of a table suffice
---     ready-tables         with both tables filled, the search is ready
---     ready-fewer          tables of more rows serve fewer
+--     tables-filled        both tables, filled
+--     tables-fewer         tables of more rows serve fewer
 --     stop-rows            the stop's table has a row for each slice
 -- Assumes nothing.
 use mathlib.Core.Path.{_≡_, ap}
@@ -20,7 +20,7 @@ use Rattle.search_rows.specs.declared.Pattern.{Pattern}
 use Rattle.search_table.specs.Rows.{rowsOf}
 use Rattle.search_table.specs.Chosen.{chosen}
 use Rattle.search_table.proofs.Pulling.{rows-length, rows-row}
-use Rattle.window_tables.specs.Ready.{patternOf, Tabled, Ready}
+use Rattle.window_tables.specs.Tables.{patternOf, Tabled, Tables}
 
 pub table-room : (r c : ℕ) → r ≤ 257 → c ≤ 64 → r * c ≤ 16448
 table-room r c h l = omega (arith, mul-le-mul-left {m = c} {n = 64} r l)
@@ -31,17 +31,17 @@ tabled-rows taps n masks rest table e = record {
   rows = λ t h. rw e (rows-row taps n t masks rest h);
 }
 
-pub ready-tables : (g : Settings) (masks : List ℕ) (stop : TestSlice) (p : Pattern) (table clauses rest more : List ℕ) (n : ℕ)
+pub tables-filled : (g : Settings) (masks : List ℕ) (stop : TestSlice) (p : Pattern) (table stops rest more : List ℕ) (n : ℕ)
     → badRegister (g .cells) (g .taps) ≡ false → badChains (g .cells) masks ≡ false → badStop (length masks) stop ≡ false
-    → p ≡ patternOf stop masks → table ≡ rowsOf (g .taps) n masks ++ rest → clauses ≡ rowsOf (g .taps) n (chosen (stop .specified) masks) ++ more
-    → Ready g masks stop p table clauses n
-ready-tables g masks stop p table clauses rest more n register chains formed pattern t c = record {
+    → p ≡ patternOf stop masks → table ≡ rowsOf (g .taps) n masks ++ rest → stops ≡ rowsOf (g .taps) n (chosen (stop .specified) masks) ++ more
+    → Tables g masks stop p table stops n
+tables-filled g masks stop p table stops rest more n register chains formed pattern t c = record {
   register = register;
   chains = chains;
   stop = formed;
   pattern = pattern;
   table = tabled-rows (g .taps) n masks rest table t;
-  clauses = tabled-rows (g .taps) n (chosen (stop .specified) masks) more clauses c;
+  stops = tabled-rows (g .taps) n (chosen (stop .specified) masks) more stops c;
 }
 
 tabled-fewer : (taps m n : ℕ) (masks table : List ℕ) → m ≤ n → Tabled taps n masks table → Tabled taps m masks table
@@ -50,18 +50,18 @@ tabled-fewer taps m n masks table h t = record {
   rows = λ k l. t .rows k (lt-of-lt-of-le l h);
 }
 
-pub ready-fewer : (g : Settings) (masks : List ℕ) (stop : TestSlice) (p : Pattern) (table clauses : List ℕ) (m n : ℕ) → m ≤ n
-    → Ready g masks stop p table clauses n → Ready g masks stop p table clauses m
-ready-fewer g masks stop p table clauses m n h r = record {
+pub tables-fewer : (g : Settings) (masks : List ℕ) (stop : TestSlice) (p : Pattern) (table stops : List ℕ) (m n : ℕ) → m ≤ n
+    → Tables g masks stop p table stops n → Tables g masks stop p table stops m
+tables-fewer g masks stop p table stops m n h r = record {
   register = r .register;
   chains = r .chains;
   stop = r .stop;
   pattern = r .pattern;
   table = tabled-fewer (g .taps) m n masks table h (r .table);
-  clauses = tabled-fewer (g .taps) m n _ clauses h (r .clauses);
+  stops = tabled-fewer (g .taps) m n _ stops h (r .stops);
 }
 
-pub stop-rows : (g : Settings) (masks : List ℕ) (stop : TestSlice) (p : Pattern) (table clauses : List ℕ) (n : ℕ) → Ready g masks stop p table clauses (suc n) → n * p .columns ≤ length clauses
-stop-rows g masks stop p table clauses n r =
+pub stop-rows : (g : Settings) (masks : List ℕ) (stop : TestSlice) (p : Pattern) (table stops : List ℕ) (n : ℕ) → Tables g masks stop p table stops (suc n) → n * p .columns ≤ length stops
+stop-rows g masks stop p table stops n r =
     let e = ap (λ (q : Pattern). q .columns) (r .pattern) in
-    rw e (omega (arith, suc-mul n (length (chosen (stop .specified) masks)), r .clauses .long))
+    rw e (omega (arith, suc-mul n (length (chosen (stop .specified) masks)), r .stops .long))

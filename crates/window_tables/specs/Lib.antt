@@ -1,3 +1,3 @@
 -- The tables of a call.
 
-pub mod Ready
+pub mod Tables

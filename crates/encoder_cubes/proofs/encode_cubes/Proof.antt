@@ -1,9 +1,6 @@
 -- `encoder_cubes::encode_cubes` meets its contract. Assumes nothing.
 use mathlib.Core.Path.{_≡_, sym, ap, _∙_}
-use native.Mathlib.Omega.{arith}
 use borrow.Author.Needs.{needs}
-use Rattle.machine_settings.specs.declared.Settings.{Settings}
-use Rattle.machine_settings.specs.Machine.{base}
 use Rattle.refusal_order.specs.Order.{judged}
 use Rattle.refusal_checks.specs.Calls.{cubesFaults}
 use Rattle.encoder_cubes.specs.Cubes.{CubesOutcome}
@@ -12,9 +9,6 @@ use Rattle.encoder_cubes.proofs.Cubes.{cubes-refused, cubes-well, cubes
 use Rattle.encoder_cubes.proofs.encode_cubes.Statement.{statement}
 use Rattle.refusal_order.specs.declared.Verdict.the-variants as verdict
 use Rattle.encoder_cubes.proofs.encode_cubes.Tie as tie
-
-base-requires : tie.Need-base-requires
-base-requires c κs = search needs
 
 check-cubes-requires : tie.Need-check-cubes-requires
 check-cubes-requires c κs = search needs
@@ -27,41 +21,33 @@ enum-told c = search needs
 
 encode-formed-requires : tie.Need-encode-formed-requires
 encode-formed-requires c κs =
-    let a = c .before .before .before .before .before .before .before .before .before .args in
-    let b = c .before .before .before .before .base in
+    let a = c .before .before .before .before .before .before .before .before .args in
     let k = c .before .before .before .check-cubes in
-    let l = ap (λ (g : Settings). g .limit) (b .ensures) in
-    (cubes-formed (b .result) (a .masks .now) (a .specified .now) (a .bits .now) _ (sym (k .ensures) ∙ c .before .enum-told .given .1), omega (arith, l))
+    cubes-formed (a .settings) (a .masks .now) (a .specified .now) (a .bits .now) _ (sym (k .ensures) ∙ c .before .enum-told .given .1)
 
 returns : tie.Need-returns
 returns c =
-    let a = c .before .before .before .before .before .before .before .before .before .args in
-    let b = c .before .before .before .before .base in
+    let a = c .before .before .before .before .before .before .before .before .args in
     let k = c .before .before .before .check-cubes in
-    let g = base (a .cells) (a .taps) in
-    let q = rw (b .ensures) at (sym (k .ensures) ∙ c .before .verdict .given .1) in
-    let e = cubes-refused g (a .masks .now) (a .specified .now) (a .bits .now) (a .out .now) (a .depth) _ q in
-    cubes-outcome g (a .masks .now) (a .specified .now) (a .bits .now) (a .out .now) (a .depth) _ (a .out .now) (sym (ap (λ (o : CubesOutcome). o .answer) e)) (sym (ap (λ (o : CubesOutcome). o .buffer) e))
+    let e = cubes-refused (a .settings) (a .masks .now) (a .specified .now) (a .bits .now) (a .out .now) (a .depth) _ (sym (k .ensures) ∙ c .before .verdict .given .1) in
+    cubes-outcome (a .settings) (a .masks .now) (a .specified .now) (a .bits .now) (a .out .now) (a .depth) _ (a .out .now) (sym (ap (λ (o : CubesOutcome). o .answer) e)) (sym (ap (λ (o : CubesOutcome). o .buffer) e))
 
 same-length : tie.Need-same-length
 same-length c = search needs
 
 returns-2 : tie.Need-returns-2
 returns-2 c =
-    let a = c .before .before .before .before .before .before .before .before .before .before .before .before .args in
-    let b = c .before .before .before .before .before .before .before .base in
+    let a = c .before .before .before .before .before .before .before .before .before .before .before .args in
     let k = c .before .before .before .before .before .before .check-cubes in
-    let g = base (a .cells) (a .taps) in
-    let q : judged (cubesFaults g (a .masks .now) (a .depth) (a .specified .now) (a .bits .now)) ≡ verdict.WellFormed = rw (b .ensures) at (sym (k .ensures) ∙ c .before .before .before .before .enum-told .given .1) in
-    let e = cubes-well g (a .masks .now) (a .specified .now) (a .bits .now) (a .out .now) (a .depth) q in
+    let q : judged (cubesFaults (a .settings) (a .masks .now) (a .depth) (a .specified .now) (a .bits .now)) ≡ verdict.WellFormed = sym (k .ensures) ∙ c .before .before .before .before .enum-told .given .1 in
+    let e = cubes-well (a .settings) (a .masks .now) (a .specified .now) (a .bits .now) (a .out .now) (a .depth) q in
     let t = c .before .before .encode-formed in
-    cubes-outcome g (a .masks .now) (a .specified .now) (a .bits .now) (a .out .now) (a .depth) (t .result) _ ((rw (b .ensures) at (t .ensures .0)) ∙ ap (λ (o : CubesOutcome). o .answer) (sym e)) ((rw (b .ensures) at (t .ensures .1)) ∙ ap (λ (o : CubesOutcome). o .buffer) (sym e))
+    cubes-outcome (a .settings) (a .masks .now) (a .specified .now) (a .bits .now) (a .out .now) (a .depth) (t .result) _ (t .ensures .0 ∙ ap (λ (o : CubesOutcome). o .answer) (sym e)) (t .ensures .1 ∙ ap (λ (o : CubesOutcome). o .buffer) (sym e))
 
 pub encode-cubes-spec : {M : Type 1} → statement M
 encode-cubes-spec =
     tie.close
     (tie.spec
-    base-requires
     check-cubes-requires
     enum-known-verdict
     enum-told

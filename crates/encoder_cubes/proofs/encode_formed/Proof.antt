@@ -24,8 +24,8 @@ encode-requires c κs =
     let s = c .before .before .before .before .before .before .before .before .before in
     let a = s .args in
     let k = c .before .before .before .before .stop-slice in
-    let e = steps-stop (length (a .masks .now)) (a .specified .now) (a .bits .now) (cubes-stop (a .settings) (a .masks .now) (a .specified .now) (a .bits .now) (s .pre .0)) _ (sym (k .ensures) ∙ c .before .before .formed2 .given .1) in
-    (stop-set (a .settings) (a .masks .now) (a .specified .now) (a .bits .now) (s .pre .0) _ e, s .pre .1)
+    let e = steps-stop (length (a .masks .now)) (a .specified .now) (a .bits .now) (cubes-stop (a .settings) (a .masks .now) (a .specified .now) (a .bits .now) (s .pre)) _ (sym (k .ensures) ∙ c .before .before .formed2 .given .1) in
+    stop-set (a .settings) (a .masks .now) (a .specified .now) (a .bits .now) (s .pre) _ e
 
 with-stop-requires : tie.Need-with-stop-requires
 with-stop-requires c κs = search needs
@@ -35,7 +35,7 @@ returns c =
     let s = c .before .before .before .before .before .before .before .before in
     let a = s .args in
     let k = c .before .before .before .stop-slice in
-    let e = steps-refused (length (a .masks .now)) (a .specified .now) (a .bits .now) (cubes-stop (a .settings) (a .masks .now) (a .specified .now) (a .bits .now) (s .pre .0)) _ (sym (k .ensures) ∙ c .before .formed .given .1) in
+    let e = steps-refused (length (a .masks .now)) (a .specified .now) (a .bits .now) (cubes-stop (a .settings) (a .masks .now) (a .specified .now) (a .bits .now) (s .pre)) _ (sym (k .ensures) ∙ c .before .formed .given .1) in
     let o = cubes-unstopped (a .settings) (a .masks .now) (a .specified .now) (a .bits .now) (a .out .now) (e .0) in
     (ap Refused (e .1) ∙ sym (ap (λ (u : CubesOutcome). u .answer) o), sym (ap (λ (u : CubesOutcome). u .buffer) o))
 
@@ -49,7 +49,7 @@ returns-2 c =
     let a = s .args in
     let k = c .before .before .before .before .before .before .before .before .stop-slice in
     let t = c .before .before .before .encode in
-    let e = steps-stop (length (a .masks .now)) (a .specified .now) (a .bits .now) (cubes-stop (a .settings) (a .masks .now) (a .specified .now) (a .bits .now) (s .pre .0)) _ (sym (k .ensures) ∙ c .before .before .before .before .before .before .formed2 .given .1) in
+    let e = steps-stop (length (a .masks .now)) (a .specified .now) (a .bits .now) (cubes-stop (a .settings) (a .masks .now) (a .specified .now) (a .bits .now) (s .pre)) _ (sym (k .ensures) ∙ c .before .before .before .before .before .before .formed2 .given .1) in
     let o = cubes-stopped (a .settings) (a .masks .now) (a .specified .now) (a .bits .now) (a .out .now) _ e in
     (c .with-stop .ensures ∙ ap (stopped _) (t .ensures .0) ∙ sym (ap (λ (u : CubesOutcome). u .answer) o), t .ensures .1 ∙ sym (ap (λ (u : CubesOutcome). u .buffer) o))
 

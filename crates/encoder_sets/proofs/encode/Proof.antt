@@ -1,16 +1,18 @@
 -- `encoder_sets::encode` meets its contract. Assumes nothing.
 use mathlib.Core.Path.{_≡_, sym, ap, _∙_}
-use Prim.Native.Nat.{suc, _+_, min}
+use Prim.Native.Nat.{ℕ, suc, _+_, _≤_, min}
 use native.Mathlib.Omega.{arith}
 use native.Mathlib.Numerals.{add-one}
-use lib.ListN.{length}
+use lib.ListN.{length, replicate, length-replicate}
 use borrow.Author.Needs.{needs}
 use Rattle.refusal_causes.specs.Outcome.{Outcome}
+use Rattle.machine_settings.specs.Machine.{machine}
 use Rattle.machine_slices.specs.Slices.{paired}
 use Rattle.machine_slices.proofs.Formed.{slices-length}
 use Rattle.refusal_lengths.proofs.Lengths.{set-within}
 use Rattle.refusal_checks.proofs.Stopped.{set-formed}
-use Rattle.window_tables.proofs.Tables.{table-room, ready-tables}
+use Rattle.theory_covering.specs.Rules.{rules}
+use Rattle.window_tables.proofs.Tables.{table-room, tables-filled}
 use Rattle.encoder_sets.proofs.Encoding.{settled-encoding, gathered-held}
 use Rattle.encoder_sets.proofs.encode.Statement.{statement}
 use Rattle.encoder_sets.proofs.encode.Tie as tie
@@ -28,19 +30,19 @@ fill-requires : tie.Need-fill-requires
 fill-requires c κs =
     let s = c .before .before .before .before .before .before in
     let a = s .args in
-    let w = set-formed (a .settings) (a .masks .now) (a .stop) (a .specified .now) (a .bits .now) (s .pre .0) in
-    table-room (c .before .lesser .result + 1) (length (a .masks .now)) (omega (arith, s .pre .1, c .before .lesser .ensures)) (w .few)
+    let w = set-formed (a .settings) (a .masks .now) (a .stop) (a .specified .now) (a .bits .now) (s .pre) in
+    table-room (c .before .lesser .result + 1) (length (a .masks .now)) (omega (arith, w .most, c .before .lesser .ensures)) (w .few)
 
-slice-aggregate-fill-clauses : tie.Need-slice-aggregate-fill-clauses
-slice-aggregate-fill-clauses c = search needs
+slice-aggregate-fill-stops : tie.Need-slice-aggregate-fill-stops
+slice-aggregate-fill-stops c = search needs
 
-fill-clauses-requires : tie.Need-fill-clauses-requires
-fill-clauses-requires c κs =
+fill-stops-requires : tie.Need-fill-stops-requires
+fill-stops-requires c κs =
     let s = c .before .before .before .before .before .before .before .before .before in
     let a = s .args in
-    let w = set-formed (a .settings) (a .masks .now) (a .stop) (a .specified .now) (a .bits .now) (s .pre .0) in
+    let w = set-formed (a .settings) (a .masks .now) (a .stop) (a .specified .now) (a .bits .now) (s .pre) in
     let l = c .before .before .before .before .lesser in
-    (w .few, table-room (l .result + 1) (length (a .masks .now)) (omega (arith, s .pre .1, l .ensures)) (w .few))
+    (w .few, table-room (l .result + 1) (length (a .masks .now)) (omega (arith, w .most, l .ensures)) (w .few))
 
 slice-aggregate-gather : tie.Need-slice-aggregate-gather
 slice-aggregate-gather c = search needs
@@ -55,13 +57,13 @@ gather-requires : tie.Need-gather-requires
 gather-requires c κs =
     let s = c .before .before .before .before .before .before .before .before .before .before .before .before .before .before in
     let a = s .args in
-    let w = set-formed (a .settings) (a .masks .now) (a .stop) (a .specified .now) (a .bits .now) (s .pre .0) in
+    let w = set-formed (a .settings) (a .masks .now) (a .stop) (a .specified .now) (a .bits .now) (s .pre) in
     let l = c .before .before .before .before .before .before .before .before .before .lesser in
-    let k = c .before .before .before .before .fill-clauses in
+    let k = c .before .before .before .before .fill-stops in
     let f = c .before .before .before .before .before .before .before .fill in
     let n : l .result + 1 ≡ suc (min (a .settings .limit) (length (a .specified .now))) = add-one (l .result) ∙ ap suc (l .ensures) in (
-      rw (sym n) (ready-tables (a .settings) (a .masks .now) (a .stop) (k .result) (f .last .1 .1 .1 .0) (k .last .1 .1 .1 .1 .0) _ _ (l .result + 1) (w .register) (w .chains) (w .stop) (k .ensures .0) (f .ensures) (k .ensures .1)),
-      (w .slices, (s .pre .1, set-within (length (a .specified .now)) (w .lengths) .1, set-within (length (a .specified .now)) (w .lengths) .1)),
+      rw (sym n) (tables-filled (a .settings) (a .masks .now) (a .stop) (k .result) (f .last .1 .1 .1 .0) (k .last .1 .1 .1 .1 .0) _ _ (l .result + 1) (w .register) (w .chains) (w .stop) (k .ensures .0) (f .ensures) (k .ensures .1)),
+      (w .slices, ((w .most, set-within (length (a .specified .now)) (w .lengths) .1, set-within (length (a .specified .now)) (w .lengths) .1), (omega arith, omega arith))),
     )
 
 slice-aggregate-settle : tie.Need-slice-aggregate-settle
@@ -71,8 +73,10 @@ settle-requires : tie.Need-settle-requires
 settle-requires c κs =
     let s = c .before .before .before .before .before .before .before .before .before .before .before .before .before .before .before .before .before .before in
     let a = s .args in
+    let w = set-formed (a .settings) (a .masks .now) (a .stop) (a .specified .now) (a .bits .now) (s .pre) in
+    let room : length (paired (a .specified .now) (a .bits .now)) ≤ length {A = ℕ} (replicate 2048 0) = rw (length-replicate {A = ℕ} 2048 0) (omega (arith, set-within (length (a .specified .now)) (w .lengths) .1, slices-length (length (a .masks .now)) (a .specified .now) (a .bits .now) (w .slices))) in
     let r = c .before .before .before .gather in
-    gathered-held (a .settings) (a .masks .now) (a .stop) (paired (a .specified .now) (a .bits .now)) (r .result) (r .last .1 .1 .1 .1 .1 .1 .1 .1 .0) _ (r .ensures .0) (r .ensures .1)
+    gathered-held (machine (a .settings) (a .masks .now)) _ (paired (a .specified .now) (a .bits .now)) _ room (r .result) (r .last .1 .1 .1 .1 .1 .1 .1 .0) (r .ensures .0) (r .ensures .1)
 
 same-length : tie.Need-same-length
 same-length c = search needs
@@ -83,8 +87,9 @@ returns c =
     let a = s .args in
     let r = c .before .before .before .before .before .before .gather in
     let t = c .before .before .settle in
-    let w = set-formed (a .settings) (a .masks .now) (a .stop) (a .specified .now) (a .bits .now) (s .pre .0) in
-    let e = settled-encoding (a .settings) (a .masks .now) (a .stop) (paired (a .specified .now) (a .bits .now)) (r .result) (r .last .1 .1 .1 .1 .1 .1 .1 .1 .0) _ (r .ensures .0) (r .ensures .1) (length (a .specified .now)) (a .out .now) (slices-length (length (a .masks .now)) (a .specified .now) (a .bits .now) (w .slices)) in
+    let w = set-formed (a .settings) (a .masks .now) (a .stop) (a .specified .now) (a .bits .now) (s .pre) in
+    let room : length (paired (a .specified .now) (a .bits .now)) ≤ length {A = ℕ} (replicate 2048 0) = rw (length-replicate {A = ℕ} 2048 0) (omega (arith, set-within (length (a .specified .now)) (w .lengths) .1, slices-length (length (a .masks .now)) (a .specified .now) (a .bits .now) (w .slices))) in
+    let e = settled-encoding (machine (a .settings) (a .masks .now)) (rules (a .settings) (a .stop)) (paired (a .specified .now) (a .bits .now)) _ room (r .result) (r .last .1 .1 .1 .1 .1 .1 .1 .0) (r .ensures .0) (r .ensures .1) (length (a .specified .now)) (a .out .now) (slices-length (length (a .masks .now)) (a .specified .now) (a .bits .now) (w .slices)) in
     (t .ensures .0 ∙ ap (λ (o : Outcome). o .answer) e, t .ensures .1 ∙ ap (λ (o : Outcome). o .buffer) e)
 
 pub encode-spec : {M : Type 1} → statement M
@@ -95,8 +100,8 @@ encode-spec =
     add-rows
     slice-aggregate-fill
     fill-requires
-    slice-aggregate-fill-clauses
-    fill-clauses-requires
+    slice-aggregate-fill-stops
+    fill-stops-requires
     slice-aggregate-gather
     slice-aggregate-gather-2
     slice-aggregate-gather-3

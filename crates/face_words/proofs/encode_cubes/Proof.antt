@@ -1,11 +1,14 @@
 -- `face_words::encode_cubes` meets its contract. Assumes nothing.
 use mathlib.Core.Path.{ap, _∙_}
 use borrow.Author.Needs.{needs}
-use Rattle.machine_settings.specs.Machine.{base}
 use Rattle.encoder_cubes.proofs.Cubes.{cubes-means}
 use Rattle.face_answers.specs.Answers.{cubesAnswerOf}
+use Rattle.face_values.specs.Values.{settingsOf}
 use Rattle.face_words.proofs.encode_cubes.Statement.{statement}
 use Rattle.face_words.proofs.encode_cubes.Tie as tie
+
+settings-of-requires : tie.Need-settings-of-requires
+settings-of-requires c κs = search needs
 
 encode-cubes-requires : tie.Need-encode-cubes-requires
 encode-cubes-requires c κs = search needs
@@ -18,10 +21,11 @@ same-length c = search needs
 
 returns : tie.Need-returns
 returns c =
-    let a = c .before .before .before .before .before .before .before .before .before .args in
+    let a = c .before .before .before .before .before .before .before .before .before .before .args in
+    let g = c .before .before .before .before .before .settings-of in
     let e = c .before .before .before .encode-cubes in
-    (c .cubes-answer-of .ensures ∙ ap cubesAnswerOf (e .ensures .0), (e .ensures .1 .0, cubes-means (base (a .cells) (a .taps)) (a .masks .now) (a .specified .now) (a .bits .now) (a .out .now) (a .depth)))
+    (c .cubes-answer-of .ensures ∙ ap cubesAnswerOf (rw (g .ensures) at (e .ensures .0)), (rw (g .ensures) at (e .ensures .1 .0), cubes-means (settingsOf (a .settings)) (a .masks .now) (a .specified .now) (a .bits .now) (a .out .now) (a .depth)))
 
 pub encode-cubes-spec : {M : Type 1} → statement M
 encode-cubes-spec =
-    tie.close (tie.spec encode-cubes-requires cubes-answer-of-requires same-length returns)
+    tie.close (tie.spec settings-of-requires encode-cubes-requires cubes-answer-of-requires same-length returns)

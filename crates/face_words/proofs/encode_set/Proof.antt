@@ -1,12 +1,14 @@
 -- `face_words::encode_set` meets its contract. Assumes nothing.
 use mathlib.Core.Path.{ap, _∙_}
 use borrow.Author.Needs.{needs}
-use Rattle.machine_settings.specs.Machine.{base}
 use Rattle.encoder_meaning.proofs.Calls.{set-means}
 use Rattle.face_answers.specs.Answers.{answerOf}
-use Rattle.face_values.specs.Values.{testSliceOf}
+use Rattle.face_values.specs.Values.{settingsOf, testSliceOf}
 use Rattle.face_words.proofs.encode_set.Statement.{statement}
 use Rattle.face_words.proofs.encode_set.Tie as tie
+
+settings-of-requires : tie.Need-settings-of-requires
+settings-of-requires c κs = search needs
 
 encode-set-requires : tie.Need-encode-set-requires
 encode-set-requires c κs = search needs
@@ -19,10 +21,11 @@ same-length c = search needs
 
 returns : tie.Need-returns
 returns c =
-    let a = c .before .before .before .before .before .before .before .before .before .args in
+    let a = c .before .before .before .before .before .before .before .before .before .before .args in
+    let g = c .before .before .before .before .before .settings-of in
     let e = c .before .before .before .encode-set in
-    (c .answer-of .ensures ∙ ap answerOf (e .ensures .0), (e .ensures .1 .0, set-means (base (a .cells) (a .taps)) (a .masks .now) (testSliceOf (a .stop-specified) (a .stop-bits)) (a .specified .now) (a .bits .now) (a .out .now)))
+    (c .answer-of .ensures ∙ ap answerOf (rw (g .ensures) at (e .ensures .0)), (rw (g .ensures) at (e .ensures .1 .0), set-means (settingsOf (a .settings)) (a .masks .now) (testSliceOf (a .stop-specified) (a .stop-bits)) (a .specified .now) (a .bits .now) (a .out .now)))
 
 pub encode-set-spec : {M : Type 1} → statement M
 encode-set-spec =
-    tie.close (tie.spec encode-set-requires answer-of-requires same-length returns)
+    tie.close (tie.spec settings-of-requires encode-set-requires answer-of-requires same-length returns)

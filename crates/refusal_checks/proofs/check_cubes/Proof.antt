@@ -13,6 +13,9 @@ bad-chains-requires c κs = search needs
 bad-cubes-requires : tie.Need-bad-cubes-requires
 bad-cubes-requires c κs = search needs
 
+bad-lengths-requires : tie.Need-bad-lengths-requires
+bad-lengths-requires c κs = search needs
+
 bad-slices-requires : tie.Need-bad-slices-requires
 bad-slices-requires c κs = search needs
 
@@ -22,7 +25,7 @@ judge-requires c κs = search needs
 returns : tie.Need-returns
 unfolding cubesFaults
 returns c =
-    rw (← (c .before .bad-slices .ensures), ← (c .before .before .bad-cubes .ensures), ← (c .before .before .before .bad-chains .ensures), ← (c .before .before .before .before .bad-register .ensures))
+    rw (← (c .before .bad-slices .ensures), ← (c .before .before .before .bad-cubes .ensures), ← (c .before .before .bad-lengths .ensures), ← (c .before .before .before .before .bad-chains .ensures), ← (c .before .before .before .before .before .bad-register .ensures))
     (c .judge .ensures)
 
 pub check-cubes-spec : {M : Type 1} → statement M
@@ -32,6 +35,7 @@ check-cubes-spec =
     bad-register-requires
     bad-chains-requires
     bad-cubes-requires
+    bad-lengths-requires
     bad-slices-requires
     judge-requires
     returns)

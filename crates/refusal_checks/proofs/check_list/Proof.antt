@@ -13,6 +13,9 @@ bad-chains-requires c κs = search needs
 bad-list-requires : tie.Need-bad-list-requires
 bad-list-requires c κs = search needs
 
+bad-lengths-requires : tie.Need-bad-lengths-requires
+bad-lengths-requires c κs = search needs
+
 bad-stop-requires : tie.Need-bad-stop-requires
 bad-stop-requires c κs = search needs
 
@@ -22,7 +25,7 @@ judge-requires c κs = search needs
 returns : tie.Need-returns
 unfolding listFaults
 returns c =
-    rw (← (c .before .bad-stop .ensures), ← (c .before .before .bad-list .ensures), ← (c .before .before .before .bad-chains .ensures), ← (c .before .before .before .before .bad-register .ensures))
+    rw (← (c .before .bad-stop .ensures), ← (c .before .before .before .bad-list .ensures), ← (c .before .before .bad-lengths .ensures), ← (c .before .before .before .before .bad-chains .ensures), ← (c .before .before .before .before .before .bad-register .ensures))
     (c .judge .ensures)
 
 pub check-list-spec : {M : Type 1} → statement M
@@ -32,6 +35,7 @@ check-list-spec =
     bad-register-requires
     bad-chains-requires
     bad-list-requires
+    bad-lengths-requires
     bad-stop-requires
     judge-requires
     returns)

@@ -10,6 +10,9 @@ bad-register-requires c κs = search needs
 bad-chains-requires : tie.Need-bad-chains-requires
 bad-chains-requires c κs = search needs
 
+bad-lengths-requires : tie.Need-bad-lengths-requires
+bad-lengths-requires c κs = search needs
+
 bad-slices-requires : tie.Need-bad-slices-requires
 bad-slices-requires c κs = search needs
 
@@ -22,7 +25,7 @@ judge-requires c κs = search needs
 returns : tie.Need-returns
 unfolding stoppedFaults
 returns c =
-    rw (← (c .before .bad-stop .ensures), ← (c .before .before .bad-slices .ensures), ← (c .before .before .before .bad-chains .ensures), ← (c .before .before .before .before .bad-register .ensures))
+    rw (← (c .before .bad-stop .ensures), ← (c .before .before .bad-slices .ensures), ← (c .before .before .before .bad-lengths .ensures), ← (c .before .before .before .before .bad-chains .ensures), ← (c .before .before .before .before .before .bad-register .ensures))
     (c .judge .ensures)
 
 pub check-stopped-spec : {M : Type 1} → statement M
@@ -31,6 +34,7 @@ check-stopped-spec =
     (tie.spec
     bad-register-requires
     bad-chains-requires
+    bad-lengths-requires
     bad-slices-requires
     bad-stop-requires
     judge-requires

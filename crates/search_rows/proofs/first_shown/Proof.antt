@@ -7,7 +7,7 @@ use lib.ListN.{length}
 use borrow.Author.Needs.{needs}
 use borrow.Author.Count.{below-more}
 use Rattle.words_bounded.specs.Bounded.{NoneBelow}
-use Rattle.search_rows.specs.Clauses.{shown}
+use Rattle.search_rows.specs.Rows.{shown}
 use Rattle.search_rows.proofs.Reading.{row-fits}
 use Rattle.search_rows.proofs.First.{shown-first, shown-never}
 use Rattle.search_rows.proofs.first_shown.Statement.{statement}

@@ -4,7 +4,7 @@ use Prim.Native.Nat.{_-_, _≤_}
 use native.Mathlib.Omega.{arith}
 use lib.ListN.{drop}
 use borrow.Author.Needs.{needs}
-use Rattle.search_rows.specs.Clauses.{reads as readsOf, shown, row as rowOf}
+use Rattle.search_rows.specs.Rows.{reads as readsOf, shown, row as rowOf}
 use Rattle.search_rows.proofs.Reading.{reads-next, reads-differs, reads-end}
 use Rattle.search_rows.proofs.shown.Statement.{statement}
 use Rattle.search_rows.proofs.shown.Tie as tie

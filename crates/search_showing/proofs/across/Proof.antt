@@ -4,7 +4,7 @@ use Prim.Native.Nat.{_+_, _-_, _/_, _≤_}
 use native.Mathlib.Omega.{arith}
 use lib.ListN.{drop, take}
 use borrow.Author.Needs.{needs}
-use Rattle.search_rows.specs.Clauses.{row as rowOf}
+use Rattle.search_rows.specs.Rows.{row as rowOf}
 use Rattle.search_showing.specs.Showing.{across as acrossOf, together as togetherOf}
 use Rattle.search_showing.proofs.Columns.{across-next, across-neither, across-end}
 use Rattle.search_showing.proofs.across.Statement.{statement}

@@ -10,7 +10,7 @@ use Prim.Native.Nat.{ℕ, _-_, _+_, _*_, _≤_, _<_}
 use mathlib.Core.Bool.{false}
 use lib.ListN.{take}
 use Rattle.search_members.specs.Members.{pick}
-use Rattle.search_rows.specs.Clauses.{clear}
+use Rattle.search_rows.specs.Rows.{clear}
 use Rattle.search_sifting.proofs.clear_lane.Statement.{statement}
 use Rattle.search_sifting.proofs.clear_lane.Tie as tie
 

@@ -9,18 +9,18 @@ use Rattle.stop_counting.proofs.put.Tie as tie
 shl-weight : tie.Need-shl-weight
 shl-weight c = search needs
 
-add-t5 : tie.Need-add-t5
-add-t5 c =
+add-specified : tie.Need-add-specified
+add-specified c =
     let a = c .before .args in
     omega (arith, one-shifted (a .position) (c .before .pre .0 .within), put-fits (a .position) (a .stop) (c .before .pre .0) (search needs))
 
-mul-t6 : tie.Need-mul-t6
-mul-t6 c =
+mul-bits : tie.Need-mul-bits
+mul-bits c =
     let a = c .before .args in
     rw (one-shifted (a .position) (c .before .pre .0 .within)) (omega (arith, put-bit-fits (a .position) (a .stop) (c .before .pre .0) (a .bit) (c .before .pre .1) (search needs)))
 
-add-t7 : tie.Need-add-t7
-add-t7 c =
+add-bits : tie.Need-add-bits
+add-bits c =
     let a = c .before .before .args in
     rw (one-shifted (a .position) (c .before .before .pre .0 .within)) (omega (arith, put-bit-fits (a .position) (a .stop) (c .before .before .pre .0) (a .bit) (c .before .before .pre .1) (search needs)))
 
@@ -28,4 +28,4 @@ returns : tie.Need-returns
 returns c = rw (one-shifted (c .before .before .args .position) (c .before .before .pre .0 .within))
 
 pub put-spec : {M : Type 1} → statement M
-put-spec = tie.close (tie.spec shl-weight add-t5 mul-t6 add-t7 returns)
+put-spec = tie.close (tie.spec shl-weight add-specified mul-bits add-bits returns)

@@ -5,7 +5,7 @@ use Rattle.text_encode.proofs.encode_text.Statement.{statement}
 use Rattle.text_encode.proofs.encode_text.Tie as tie
 use mathlib.Core.Path.{sym}
 use lib.Seq.{length-take-le}
-use Rattle.text_replies.proofs.Read.{ends-whole, masks-within, rows-within, bits-within, few-masks}
+use Rattle.text_replies.proofs.Read.{ends-whole, masks-within, items-within, bits-within, few-masks}
 use Rattle.text_encode.proofs.Concluding.{sheet-said, sheet-whole, sheet-refused}
 
 slice-aggregate-scan : tie.Need-slice-aggregate-scan
@@ -29,63 +29,57 @@ scan-requires c κs = search needs
 enum-known-place : tie.Need-enum-known-place
 enum-known-place c = search needs
 
+slice-aggregate-settings : tie.Need-slice-aggregate-settings
+slice-aggregate-settings c = search needs
+
+settings-requires : tie.Need-settings-requires
+settings-requires c κs = search needs
+
+array-share-prefix-masks : tie.Need-array-share-prefix-masks
+array-share-prefix-masks c =
+    let k = c .before .before .before in
+    let s = k .before .before .before .before .before .before .before .scan .ensures in
+    masks-within _ _ _ (s .0) (k .place .given .1) _ (s .1 .1 .1 .0)
+
+slice-aggregate-encode-said : tie.Need-slice-aggregate-encode-said
+slice-aggregate-encode-said c =
+    let k = c .before .before .before .before in
+    let s = k .before .before .before .before .before .before .before .scan .ensures in
+    sym (length-take-le _ _ (masks-within _ _ _ (s .0) (k .place .given .1) _ (s .1 .1 .1 .0)))
+
 slice-aggregate-number : tie.Need-slice-aggregate-number
 slice-aggregate-number c = search needs
 
 number-requires : tie.Need-number-requires
 number-requires c κs = search needs
 
-slice-aggregate-number-2 : tie.Need-slice-aggregate-number-2
-slice-aggregate-number-2 c = search needs
-
-number-requires-2 : tie.Need-number-requires-2
-number-requires-2 c κs = search needs
-
-array-share-prefix-masks : tie.Need-array-share-prefix-masks
-array-share-prefix-masks c =
-    let k = c .before .before .before .before .before in
-    let s = k .before .before .before .before .before .before .before .scan .ensures in
-    masks-within _ _ _ (s .0) (k .place .given .1) _ (s .1 .1 .1 .0)
-
-slice-aggregate-encode-said : tie.Need-slice-aggregate-encode-said
-slice-aggregate-encode-said c =
-    let k = c .before .before .before .before .before .before in
-    let s = k .before .before .before .before .before .before .before .scan .ensures in
-    sym (length-take-le _ _ (masks-within _ _ _ (s .0) (k .place .given .1) _ (s .1 .1 .1 .0)))
-
-slice-aggregate-number-3 : tie.Need-slice-aggregate-number-3
-slice-aggregate-number-3 c = search needs
-
-number-requires-3 : tie.Need-number-requires-3
-number-requires-3 c κs = search needs
-
 array-share-prefix-firsts : tie.Need-array-share-prefix-firsts
 array-share-prefix-firsts c =
-    let k = c .before .before .before .before .before .before .before .before in
+    let k = c .before .before .before .before .before .before in
     let s = k .before .before .before .before .before .before .before .scan .ensures in
-    rows-within _ _ _ (s .0) (k .place .given .1) _ (s .1 .1 .1 .1 .0)
+    items-within _ _ _ (s .0) (k .place .given .1) _ (s .1 .1 .1 .1 .0)
 
 slice-aggregate-encode-said-2 : tie.Need-slice-aggregate-encode-said-2
 slice-aggregate-encode-said-2 c =
-    let k = c .before .before .before .before .before .before .before .before .before in
+    let k = c .before .before .before .before .before .before .before in
     let s = k .before .before .before .before .before .before .before .scan .ensures in
-    sym (length-take-le _ _ (rows-within _ _ _ (s .0) (k .place .given .1) _ (s .1 .1 .1 .1 .0)))
+    sym (length-take-le _ _ (items-within _ _ _ (s .0) (k .place .given .1) _ (s .1 .1 .1 .1 .0)))
 
 array-share-prefix-seconds : tie.Need-array-share-prefix-seconds
 array-share-prefix-seconds c =
-    let k = c .before .before .before .before .before .before .before .before .before in
+    let k = c .before .before .before .before .before .before .before in
     let s = k .before .before .before .before .before .before .before .scan .ensures in
     bits-within _ _ _ (s .0) (k .place .given .1) _ (s .1 .1 .1 .1 .1)
 
 slice-aggregate-encode-said-3 : tie.Need-slice-aggregate-encode-said-3
 slice-aggregate-encode-said-3 c =
-    let k = c .before .before .before .before .before .before .before .before .before .before in
+    let k = c .before .before .before .before .before .before .before .before in
     let s = k .before .before .before .before .before .before .before .scan .ensures in
     sym (length-take-le _ _ (bits-within _ _ _ (s .0) (k .place .given .1) _ (s .1 .1 .1 .1 .1)))
 
 encode-said-requires : tie.Need-encode-said-requires
 encode-said-requires c κs =
-    let k = c .before .before .before .before .before .before .before .before .before .before .before in
+    let k = c .before .before .before .before .before .before .before .before .before in
     few-masks _ _ _ (k .before .before .before .before .before .before .before .scan .ensures .0) (k .place .given .1) _
 
 enum-known-refusal : tie.Need-enum-known-refusal
@@ -97,12 +91,12 @@ same-length c = search needs
 returns : tie.Need-returns
 returns c =
     let r = c .before .before in
-    let k = r .before .before .before .before .before .before .before .before .before .before .before .before in
+    let k = r .before .before .before .before .before .before .before .before .before .before in
     let s = k .before .before .before .before .before .before .before .scan .ensures in
     let e = ends-whole _ _ _ (s .0) (k .place .given .1) in
     let n3 = r .before .before .before .before in
-    let n2 = n3 .before .before .before in
-    sheet-whole _ _ _ _ _ e (sheet-said _ _ _ e _ _ _ (s .1 .0) (s .1 .1 .1 .0) (s .1 .1 .1 .1 .0) _ _ (n2 .before .before .number .ensures) (n2 .number2 .ensures) _ _ _ _ _ (n3 .number3 .ensures) (s .1 .1 .1 .1 .1) (r .encode-said .ensures))
+    let n1 = n3 .before .before .before in
+    sheet-whole _ _ _ _ _ e (sheet-said _ _ _ e _ _ _ (s .1 .0) (s .1 .1 .1 .0) (s .1 .1 .1 .1 .0) _ (n1 .settings .ensures) _ _ _ _ _ (n3 .number .ensures) (s .1 .1 .1 .1 .1) (r .encode-said .ensures))
 
 returns-2 : tie.Need-returns-2
 returns-2 c =
@@ -120,14 +114,12 @@ encode-text-spec =
     slice-aggregate-scan-5
     scan-requires
     enum-known-place
-    slice-aggregate-number
-    number-requires
-    slice-aggregate-number-2
-    number-requires-2
+    slice-aggregate-settings
+    settings-requires
     array-share-prefix-masks
     slice-aggregate-encode-said
-    slice-aggregate-number-3
-    number-requires-3
+    slice-aggregate-number
+    number-requires
     array-share-prefix-firsts
     slice-aggregate-encode-said-2
     array-share-prefix-seconds

@@ -19,8 +19,8 @@ same-requires c κs = search needs
 store-requires-3 : tie.Need-store-requires-3
 store-requires-3 c κs = search needs
 
-is-row-requires : tie.Need-is-row-requires
-is-row-requires c κs = search needs
+is-item-requires : tie.Need-is-item-requires
+is-item-requires c κs = search needs
 
 store-requires-4 : tie.Need-store-requires-4
 store-requires-4 c κs = search needs
@@ -52,8 +52,8 @@ returns c =
     let s2 = s3 .before .before .before .before .before in
     let s1 = s2 .before .before .before .before in
     let rank = s1 .before .before .rank .ensures in
-    let row = s4 .before .before .is-row .ensures in
-    (rw rank at (s1 .store .ensures), (rw rank at (s2 .store2 .ensures), (rw (s3 .before .before .same .ensures) at (s3 .store3 .ensures), (rw row at (s4 .store4 .ensures), rw row at (s5 .store5 .ensures)))))
+    let item = s4 .before .before .is-item .ensures in
+    (rw rank at (s1 .store .ensures), (rw rank at (s2 .store2 .ensures), (rw (s3 .before .before .same .ensures) at (s3 .store3 .ensures), (rw item at (s4 .store4 .ensures), rw item at (s5 .store5 .ensures)))))
 
 pub keep-spec : {M : Type 1} → statement M
 keep-spec =
@@ -64,7 +64,7 @@ keep-spec =
     store-requires-2
     same-requires
     store-requires-3
-    is-row-requires
+    is-item-requires
     store-requires-4
     store-requires-5
     same-length

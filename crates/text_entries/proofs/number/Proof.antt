@@ -12,7 +12,7 @@ mul-result : tie.Need-mul-result
 mul-result c = let q = rank-lt (c .before .before .args .key) in rw (c .rank .ensures) (omega (arith, q))
 
 shared-slice-read-result : tie.Need-shared-slice-read-result
-shared-slice-read-result c = let b = c .before in rw (b .rank .ensures, b .before .before .pre) (rank-lt _)
+shared-slice-read-result c = let b = c .before in let q = rank-lt (b .before .before .args .key) in rw (b .rank .ensures) (omega (arith, q, b .before .before .pre))
 
 returns : tie.Need-returns
 returns c = rw (c .before .rank .ensures)

@@ -5,7 +5,7 @@ use Rattle.text_expand.proofs.expand_text.Statement.{statement}
 use Rattle.text_expand.proofs.expand_text.Tie as tie
 use mathlib.Core.Path.{sym}
 use lib.Seq.{length-take-le}
-use Rattle.text_replies.proofs.Read.{ends-whole, masks-within, rows-within, few-masks}
+use Rattle.text_replies.proofs.Read.{ends-whole, masks-within, items-within, few-masks}
 use Rattle.text_expand.proofs.Concluding.{list-said, list-whole, list-refused}
 
 slice-aggregate-scan : tie.Need-slice-aggregate-scan
@@ -41,51 +41,45 @@ slice-aggregate-number-2 c = search needs
 number-requires-2 : tie.Need-number-requires-2
 number-requires-2 c κs = search needs
 
+slice-aggregate-settings : tie.Need-slice-aggregate-settings
+slice-aggregate-settings c = search needs
+
+settings-requires : tie.Need-settings-requires
+settings-requires c κs = search needs
+
+array-share-prefix-masks : tie.Need-array-share-prefix-masks
+array-share-prefix-masks c =
+    let k = c .before .before .before .before .before .before .before in
+    let s = k .before .before .before .before .before .before .before .scan .ensures in
+    masks-within _ _ _ (s .0) (k .place .given .1) _ (s .1 .1 .1 .0)
+
+slice-aggregate-expand-said : tie.Need-slice-aggregate-expand-said
+slice-aggregate-expand-said c =
+    let k = c .before .before .before .before .before .before .before .before in
+    let s = k .before .before .before .before .before .before .before .scan .ensures in
+    sym (length-take-le _ _ (masks-within _ _ _ (s .0) (k .place .given .1) _ (s .1 .1 .1 .0)))
+
 slice-aggregate-number-3 : tie.Need-slice-aggregate-number-3
 slice-aggregate-number-3 c = search needs
 
 number-requires-3 : tie.Need-number-requires-3
 number-requires-3 c κs = search needs
 
-slice-aggregate-number-4 : tie.Need-slice-aggregate-number-4
-slice-aggregate-number-4 c = search needs
-
-number-requires-4 : tie.Need-number-requires-4
-number-requires-4 c κs = search needs
-
-array-share-prefix-masks : tie.Need-array-share-prefix-masks
-array-share-prefix-masks c =
-    let k = c .before .before .before .before .before .before .before .before .before in
-    let s = k .before .before .before .before .before .before .before .scan .ensures in
-    masks-within _ _ _ (s .0) (k .place .given .1) _ (s .1 .1 .1 .0)
-
-slice-aggregate-expand-said : tie.Need-slice-aggregate-expand-said
-slice-aggregate-expand-said c =
-    let k = c .before .before .before .before .before .before .before .before .before .before in
-    let s = k .before .before .before .before .before .before .before .scan .ensures in
-    sym (length-take-le _ _ (masks-within _ _ _ (s .0) (k .place .given .1) _ (s .1 .1 .1 .0)))
-
-slice-aggregate-number-5 : tie.Need-slice-aggregate-number-5
-slice-aggregate-number-5 c = search needs
-
-number-requires-5 : tie.Need-number-requires-5
-number-requires-5 c κs = search needs
-
 array-share-prefix-firsts : tie.Need-array-share-prefix-firsts
 array-share-prefix-firsts c =
-    let k = c .before .before .before .before .before .before .before .before .before .before .before .before in
+    let k = c .before .before .before .before .before .before .before .before .before .before in
     let s = k .before .before .before .before .before .before .before .scan .ensures in
-    rows-within _ _ _ (s .0) (k .place .given .1) _ (s .1 .1 .1 .1 .0)
+    items-within _ _ _ (s .0) (k .place .given .1) _ (s .1 .1 .1 .1 .0)
 
 slice-aggregate-expand-said-2 : tie.Need-slice-aggregate-expand-said-2
 slice-aggregate-expand-said-2 c =
-    let k = c .before .before .before .before .before .before .before .before .before .before .before .before .before in
+    let k = c .before .before .before .before .before .before .before .before .before .before .before in
     let s = k .before .before .before .before .before .before .before .scan .ensures in
-    sym (length-take-le _ _ (rows-within _ _ _ (s .0) (k .place .given .1) _ (s .1 .1 .1 .1 .0)))
+    sym (length-take-le _ _ (items-within _ _ _ (s .0) (k .place .given .1) _ (s .1 .1 .1 .1 .0)))
 
 expand-said-requires : tie.Need-expand-said-requires
 expand-said-requires c κs =
-    let k = c .before .before .before .before .before .before .before .before .before .before .before .before .before .before in
+    let k = c .before .before .before .before .before .before .before .before .before .before .before .before in
     few-masks _ _ _ (k .before .before .before .before .before .before .before .scan .ensures .0) (k .place .given .1) _
 
 enum-known-refusal : tie.Need-enum-known-refusal
@@ -99,13 +93,12 @@ returns c =
     let r = c .before .before in
     let n5 = r .before .before .before in
     let n4 = n5 .before .before .before in
-    let n3 = n4 .before .before in
-    let n2 = n3 .before .before in
+    let n2 = n4 .before .before in
     let n1 = n2 .before .before in
     let k = n1 .before .before .before in
     let s = k .before .before .before .before .before .before .before .scan .ensures in
     let e = ends-whole _ _ _ (s .0) (k .place .given .1) in
-    list-whole _ _ _ _ _ e (list-said _ _ _ e _ _ _ (s .1 .0) (s .1 .1 .1 .0) (s .1 .1 .1 .1 .0) _ _ (n3 .number3 .ensures) (n4 .number4 .ensures) _ _ _ _ _ _ (s .1 .1 .0) (n1 .number .ensures) (n2 .number2 .ensures) (n5 .number5 .ensures) (r .expand-said .ensures))
+    list-whole _ _ _ _ _ e (list-said _ _ _ e _ _ _ (s .1 .0) (s .1 .1 .1 .0) (s .1 .1 .1 .1 .0) _ (n4 .settings .ensures) _ _ _ _ _ _ (s .1 .1 .0) (n1 .number .ensures) (n2 .number2 .ensures) (n5 .number3 .ensures) (r .expand-said .ensures))
 
 returns-2 : tie.Need-returns-2
 returns-2 c =
@@ -127,14 +120,12 @@ expand-text-spec =
     number-requires
     slice-aggregate-number-2
     number-requires-2
-    slice-aggregate-number-3
-    number-requires-3
-    slice-aggregate-number-4
-    number-requires-4
+    slice-aggregate-settings
+    settings-requires
     array-share-prefix-masks
     slice-aggregate-expand-said
-    slice-aggregate-number-5
-    number-requires-5
+    slice-aggregate-number-3
+    number-requires-3
     array-share-prefix-firsts
     slice-aggregate-expand-said-2
     expand-said-requires

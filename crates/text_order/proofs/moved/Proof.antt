@@ -34,8 +34,8 @@ on-to-requires-2 c κs = search needs
 enum-told-6 : tie.Need-enum-told-6
 enum-told-6 c = search needs
 
-after-row-requires : tie.Need-after-row-requires
-after-row-requires c κs = search needs
+after-item-requires : tie.Need-after-item-requires
+after-item-requires c κs = search needs
 
 enum-told-7 : tie.Need-enum-told-7
 enum-told-7 c = search needs
@@ -52,8 +52,8 @@ on-to-requires-4 c κs = search needs
 enum-told-9 : tie.Need-enum-told-9
 enum-told-9 c = search needs
 
-after-row-requires-2 : tie.Need-after-row-requires-2
-after-row-requires-2 c κs = search needs
+after-item-requires-2 : tie.Need-after-item-requires-2
+after-item-requires-2 c κs = search needs
 
 returns : tie.Need-returns
 unfolding moved
@@ -77,7 +77,7 @@ returns-5 c = rw (c .before .enum-told5 .given .1) (c .on-to2 .ensures)
 
 returns-6 : tie.Need-returns-6
 unfolding moved
-returns-6 c = rw (c .before .enum-told6 .given .1) (c .after-row .ensures)
+returns-6 c = rw (c .before .enum-told6 .given .1) (c .after-item .ensures)
 
 returns-7 : tie.Need-returns-7
 unfolding moved
@@ -89,7 +89,7 @@ returns-8 c = rw (c .before .enum-told8 .given .1) (c .on-to4 .ensures)
 
 returns-9 : tie.Need-returns-9
 unfolding moved
-returns-9 c = rw (c .before .enum-told9 .given .1) (c .after-row2 .ensures)
+returns-9 c = rw (c .before .enum-told9 .given .1) (c .after-item2 .ensures)
 
 pub moved-spec : {M : Type 1} → statement M
 moved-spec =
@@ -105,13 +105,13 @@ moved-spec =
     enum-told-5
     on-to-requires-2
     enum-told-6
-    after-row-requires
+    after-item-requires
     enum-told-7
     on-to-requires-3
     enum-told-8
     on-to-requires-4
     enum-told-9
-    after-row-requires-2
+    after-item-requires-2
     returns
     returns-2
     returns-3

@@ -2,7 +2,6 @@
 -- Assumes nothing.
 use native.Mathlib.Omega.{arith}
 use Rattle.text_keys.specs.Keys.{name}
-use Rattle.machine_settings.specs.Machine.{base}
 use Rattle.text_write_list.specs.SeedList.{headText}
 use Rattle.text_write_bytes.proofs.Storing.{join}
 use Rattle.text_write_list.proofs.Lengths.{head-parts}
@@ -14,25 +13,25 @@ slice-aggregate-put-number-line : tie.Need-slice-aggregate-put-number-line
 slice-aggregate-put-number-line c = search needs
 
 put-number-line-requires : tie.Need-put-number-line-requires
-put-number-line-requires c κs = let a = c .before .before .before .before .args in (omega arith, omega arith, omega (arith, head-parts (base (a .cells) (a .taps)) (a .masks .now)))
+put-number-line-requires c κs = let a = c .before .before .before .before .args in (omega arith, omega arith, omega (arith, head-parts (a .settings) (a .masks .now)))
 
 slice-aggregate-put-number-line-2 : tie.Need-slice-aggregate-put-number-line-2
 slice-aggregate-put-number-line-2 c = search needs
 
 put-number-line-requires-2 : tie.Need-put-number-line-requires-2
-put-number-line-requires-2 c κs = let a = c .before .before .before .before .before .before .before .before .before .args in (omega arith, omega arith, omega (arith, head-parts (base (a .cells) (a .taps)) (a .masks .now)))
+put-number-line-requires-2 c κs = let a = c .before .before .before .before .before .before .before .before .before .args in (omega arith, omega arith, omega (arith, head-parts (a .settings) (a .masks .now)))
 
 slice-aggregate-put-number-line-3 : tie.Need-slice-aggregate-put-number-line-3
 slice-aggregate-put-number-line-3 c = search needs
 
 put-number-line-requires-3 : tie.Need-put-number-line-requires-3
-put-number-line-requires-3 c κs = let a = c .before .before .before .before .before .before .before .before .before .before .before .before .before .before .args in (omega arith, omega arith, omega (arith, head-parts (base (a .cells) (a .taps)) (a .masks .now)))
+put-number-line-requires-3 c κs = let a = c .before .before .before .before .before .before .before .before .before .before .before .before .before .before .args in (omega arith, omega arith, omega (arith, head-parts (a .settings) (a .masks .now)))
 
 slice-aggregate-put-number-lines : tie.Need-slice-aggregate-put-number-lines
 slice-aggregate-put-number-lines c = search needs
 
 put-number-lines-requires : tie.Need-put-number-lines-requires
-put-number-lines-requires c κs = let a = c .before .before .before .before .before .before .before .before .before .before .before .before .before .before .before .before .before .before .before .args in (omega arith, omega arith, omega (arith, head-parts (base (a .cells) (a .taps)) (a .masks .now)))
+put-number-lines-requires c κs = let a = c .before .before .before .before .before .before .before .before .before .before .before .before .before .before .before .before .before .before .before .args in (omega arith, omega arith, omega (arith, head-parts (a .settings) (a .masks .now)))
 
 same-length : tie.Need-same-length
 same-length c = search needs

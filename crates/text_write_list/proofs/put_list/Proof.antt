@@ -2,7 +2,6 @@
 -- Assumes nothing.
 use native.Mathlib.Omega.{arith}
 use Rattle.text_keys.specs.Keys.{name}
-use Rattle.machine_settings.specs.Machine.{base}
 use Rattle.text_write_list.specs.SeedList.{listText}
 use Rattle.text_write_bytes.proofs.Storing.{join}
 use Rattle.text_write_list.proofs.Lengths.{list-parts}
@@ -11,25 +10,25 @@ use Rattle.text_write_list.proofs.put_list.Statement.{statement}
 use Rattle.text_write_list.proofs.put_list.Tie as tie
 
 put-head-requires : tie.Need-put-head-requires
-put-head-requires c κs = let a = c .before .before .before .before .args in omega (arith, list-parts (base (a .cells) (a .taps)) (a .masks .now) (a .stop) (a .slices) (a .seeds .now))
+put-head-requires c κs = let a = c .before .before .before .before .args in omega (arith, list-parts (a .settings) (a .masks .now) (a .stop) (a .slices) (a .seeds .now))
 
 slice-aggregate-put-slice-line : tie.Need-slice-aggregate-put-slice-line
 slice-aggregate-put-slice-line c = search needs
 
 put-slice-line-requires : tie.Need-put-slice-line-requires
-put-slice-line-requires c κs = let a = c .before .before .before .before .before .before .before .before .before .args in omega (arith, list-parts (base (a .cells) (a .taps)) (a .masks .now) (a .stop) (a .slices) (a .seeds .now))
+put-slice-line-requires c κs = let a = c .before .before .before .before .before .before .before .before .before .args in omega (arith, list-parts (a .settings) (a .masks .now) (a .stop) (a .slices) (a .seeds .now))
 
 slice-aggregate-put-number-line : tie.Need-slice-aggregate-put-number-line
 slice-aggregate-put-number-line c = search needs
 
 put-number-line-requires : tie.Need-put-number-line-requires
-put-number-line-requires c κs = let a = c .before .before .before .before .before .before .before .before .before .before .before .before .before .before .args in (omega arith, omega arith, omega (arith, list-parts (base (a .cells) (a .taps)) (a .masks .now) (a .stop) (a .slices) (a .seeds .now)))
+put-number-line-requires c κs = let a = c .before .before .before .before .before .before .before .before .before .before .before .before .before .before .args in (omega arith, omega arith, omega (arith, list-parts (a .settings) (a .masks .now) (a .stop) (a .slices) (a .seeds .now)))
 
 slice-aggregate-put-number-lines : tie.Need-slice-aggregate-put-number-lines
 slice-aggregate-put-number-lines c = search needs
 
 put-number-lines-requires : tie.Need-put-number-lines-requires
-put-number-lines-requires c κs = let a = c .before .before .before .before .before .before .before .before .before .before .before .before .before .before .before .before .before .before .before .args in (omega arith, omega arith, omega (arith, list-parts (base (a .cells) (a .taps)) (a .masks .now) (a .stop) (a .slices) (a .seeds .now)))
+put-number-lines-requires c κs = let a = c .before .before .before .before .before .before .before .before .before .before .before .before .before .before .before .before .before .before .before .args in (omega arith, omega arith, omega (arith, list-parts (a .settings) (a .masks .now) (a .stop) (a .slices) (a .seeds .now)))
 
 same-length : tie.Need-same-length
 same-length c = search needs

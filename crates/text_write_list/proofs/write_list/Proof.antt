@@ -1,7 +1,6 @@
 -- `text_write_list::write_list` meets its contract. What was counted first is stored where there is space for it.
 -- Assumes nothing.
 use native.Mathlib.Omega.{arith}
-use Rattle.machine_settings.specs.Machine.{base}
 use Rattle.text_write_bytes.proofs.Storing.{filled, filled-short}
 use Rattle.text_write_list.proofs.Lengths.{list-bound}
 use borrow.Author.Needs.{needs}
@@ -15,7 +14,7 @@ put-list-requires : tie.Need-put-list-requires
 put-list-requires c κs =
     let s = c .before .before .before .before in
     let a = s .args in
-    omega (arith, s .pre, list-bound (base (a .cells) (a .taps)) (a .masks .now) (a .stop) (a .slices) (a .seeds .now))
+    omega (arith, s .pre, list-bound (a .settings) (a .masks .now) (a .stop) (a .slices) (a .seeds .now))
 
 returns : tie.Need-returns
 returns c = filled-short (c .before .before .put-list .ensures) _ (c .if1 .taken)

@@ -7,7 +7,7 @@ use lib.Seq.{length-take-le}
 use Rattle.machine_slices.proofs.Causes.{slices-equal}
 use Rattle.machine_slices.proofs.Formed.{slices-length, slices-take}
 use Rattle.search_found.proofs.Finding.{state-some, nothing-none}
-use Rattle.window_tables.proofs.Tables.{ready-fewer}
+use Rattle.window_tables.proofs.Tables.{tables-fewer}
 use Rattle.window_growing.proofs.Growing.{held-part}
 use borrow.Author.Needs.{needs}
 use native.Mathlib.Omega.{arith}
@@ -20,44 +20,44 @@ use Rattle.window_lengths.proofs.descend.Statement.{statement}
 use Rattle.window_lengths.proofs.descend.Tie as tie
 
 abbrev Inv-loop : tie.InvT-loop
-Inv-loop settings masks stop pattern table clauses closing specified bits spaces most whole slices₀ slices = (slices ≤ most) × Passed (machine settings masks) stop closing (paired specified bits) slices
+Inv-loop sought masks table stops specified bits spaces most settings stop pattern whole slices₀ slices = (slices ≤ most) × Passed (machine (sought .settings) masks) (sought .stop) (sought .closing) (paired specified bits) slices
 
 abbrev μ-loop : tie.MeasureT-loop
-μ-loop settings masks stop pattern table clauses closing specified bits spaces most whole slices₀ slices = slices
+μ-loop sought masks table stops specified bits spaces most settings stop pattern whole slices₀ slices = slices
 
 loop-holds : tie.Need-loop-holds Inv-loop μ-loop
 loop-holds c =
-    let s = c .before .before .before .before .before .before in
+    let s = c .before .before .before .before .before .before .before .before .before in
     let a = s .args in
-    (omega arith, passed-start (a .settings) (a .masks .now) (a .stop) (a .pattern) (a .table .now) (a .clauses .now) (a .specified .now) (a .bits .now) (s .pre .0) (s .pre .1 .0) (a .closing) (a .most) (s .pre .1 .1 .most))
+    (omega arith, passed-start (a .sought .settings) (a .masks .now) (a .sought .stop) (a .sought .pattern) (a .table .now) (a .stops .now) (a .specified .now) (a .bits .now) (s .pre .0) (s .pre .1 .0) (a .sought .closing) (a .most) (s .pre .1 .1 .most))
 
 slice-aggregate-length-seed : tie.Need-slice-aggregate-length-seed Inv-loop μ-loop
 slice-aggregate-length-seed c =
-    let s = c .before .before .before .before .before .before .before .before .before .before in
+    let s = c .before .before .before .before .before .before .before .before .before .before .before .before .before in
     let a = s .args in
     let l = c .before .before .before .loop in
     sym (length-take-le (l .slices) (a .specified .now) (omega (arith, l .inv .1 .within, slices-length (length (a .masks .now)) (a .specified .now) (a .bits .now) (s .pre .1 .0))))
 
 slice-aggregate-length-seed-2 : tie.Need-slice-aggregate-length-seed-2 Inv-loop μ-loop
 slice-aggregate-length-seed-2 c =
-    let s = c .before .before .before .before .before .before .before .before .before .before .before in
+    let s = c .before .before .before .before .before .before .before .before .before .before .before .before .before .before in
     let a = s .args in
     let l = c .before .before .before .before .loop in
     sym (length-take-le (l .slices) (a .bits .now) (omega (arith, l .inv .1 .within, slices-length (length (a .masks .now)) (a .specified .now) (a .bits .now) (s .pre .1 .0), slices-equal (length (a .masks .now)) (a .specified .now) (a .bits .now) (s .pre .1 .0))))
 
 length-seed-requires : tie.Need-length-seed-requires Inv-loop μ-loop
 length-seed-requires c κs =
-    let s = c .before .before .before .before .before .before .before .before .before .before .before in
+    let s = c .before .before .before .before .before .before .before .before .before .before .before .before .before .before in
     let a = s .args in
     let l = c .before .before .before .before .loop in
     let h : l .slices ≤ length (a .specified .now) = omega (arith, l .inv .1 .within, slices-length (length (a .masks .now)) (a .specified .now) (a .bits .now) (s .pre .1 .0)) in
     let n = length-take-le (l .slices) (a .specified .now) h in (
-      ready-fewer (a .settings) (a .masks .now) (a .stop) (a .pattern) (a .table .now) (a .clauses .now) (suc (length (take (l .slices) (a .specified .now)))) (suc (length (a .specified .now))) (omega arith) (s .pre .0),
+      tables-fewer (a .sought .settings) (a .masks .now) (a .sought .stop) (a .sought .pattern) (a .table .now) (a .stops .now) (suc (length (take (l .slices) (a .specified .now)))) (suc (length (a .specified .now))) (omega arith) (s .pre .0),
       (
         slices-take (length (a .masks .now)) (l .slices) (a .specified .now) (a .bits .now) (s .pre .1 .0),
         (
           omega arith,
-          λ q. held-part (length (a .masks .now)) (a .table .now) (a .specified .now) (a .bits .now) (a .settings .cells) (a .spaces .now) (l .slices) h (s .pre .1 .1 .held (l .slices) (omega arith) (l .inv .0) (omega arith)),
+          λ q. held-part (length (a .masks .now)) (a .table .now) (a .specified .now) (a .bits .now) (a .sought .settings .cells) (a .spaces .now) (l .slices) h (s .pre .1 .1 .held (l .slices) (omega arith) (l .inv .0) (omega arith)),
         ),
       ),
     )
@@ -67,14 +67,14 @@ enum-known-found c = search needs
 
 returns : tie.Need-returns Inv-loop μ-loop
 returns c =
-    let s = c .before .before .before .before .before .before .before .before .before .before .before .before .before .before .before in
+    let s = c .before .before .before .before .before .before .before .before .before .before .before .before .before .before .before .before .before .before in
     let a = s .args in
     let l = c .before .before .before .before .before .before .before .before .loop in
     let j = c .before .before .before .before .before .before .if1 in
     let f = c .before .before .before .length-seed in
-    let e : j .closes ≡ (a .closing || ltb (l .slices) (length (a .specified .now))) = ⊎-elim (λ v. rw (v .1, v .0 .taken)) (λ v. rw (v .1, v .0 .left)) (j .came) in
-    let t = tried (a .settings) (a .masks .now) (a .stop) (a .pattern) (a .table .now) (a .clauses .now) (a .specified .now) (a .bits .now) (s .pre .0) (s .pre .1 .0) (a .closing) (l .slices) (j .closes) e in
-    reach-found (machine (a .settings) (a .masks .now)) (a .stop) (a .closing) (paired (a .specified .now) (a .bits .now)) (l .slices) _ (c .before .before .before .before .before .before .before .loop-test .taken) (l .inv .1) (sym t ∙ state-some _ _ (sym (f .ensures) ∙ c .before .found .given .1))
+    let e : j .closing ≡ (a .sought .closing || ltb (l .slices) (length (a .specified .now))) = ⊎-elim (λ v. rw (v .1, v .0 .taken)) (λ v. rw (v .1, v .0 .left)) (j .came) in
+    let t = tried (a .sought .settings) (a .masks .now) (a .sought .stop) (a .sought .pattern) (a .table .now) (a .stops .now) (a .specified .now) (a .bits .now) (s .pre .0) (s .pre .1 .0) (a .sought .closing) (l .slices) (j .closing) e in
+    reach-found (machine (a .sought .settings) (a .masks .now)) (a .sought .stop) (a .sought .closing) (paired (a .specified .now) (a .bits .now)) (l .slices) _ (c .before .before .before .before .before .before .before .loop-test .taken) (l .inv .1) (sym t ∙ state-some _ _ (sym (f .ensures) ∙ c .before .found .given .1))
 
 enum-told : tie.Need-enum-told Inv-loop μ-loop
 enum-told c = search needs
@@ -87,20 +87,20 @@ loop-less c = search needs
 
 loop-again : tie.Need-loop-again Inv-loop μ-loop
 loop-again c =
-    let s = c .before .before .before .before .before .before .before .before .before .before .before .before .before .before in
+    let s = c .before .before .before .before .before .before .before .before .before .before .before .before .before .before .before .before .before in
     let a = s .args in
     let l = c .before .before .before .before .before .before .before .loop in
     let j = c .before .before .before .before .before .if1 in
     let f = c .before .before .length-seed in
-    let e : j .closes ≡ (a .closing || ltb (l .slices) (length (a .specified .now))) = ⊎-elim (λ v. rw (v .1, v .0 .taken)) (λ v. rw (v .1, v .0 .left)) (j .came) in
-    let t = tried (a .settings) (a .masks .now) (a .stop) (a .pattern) (a .table .now) (a .clauses .now) (a .specified .now) (a .bits .now) (s .pre .0) (s .pre .1 .0) (a .closing) (l .slices) (j .closes) e in
-    (omega arith, passed-next (machine (a .settings) (a .masks .now)) (a .stop) (a .closing) (paired (a .specified .now) (a .bits .now)) (l .slices) (c .before .before .before .before .before .before .loop-test .taken) (l .inv .1) (sym t ∙ nothing-none _ (sym (f .ensures) ∙ c .enum-told .given .1)))
+    let e : j .closing ≡ (a .sought .closing || ltb (l .slices) (length (a .specified .now))) = ⊎-elim (λ v. rw (v .1, v .0 .taken)) (λ v. rw (v .1, v .0 .left)) (j .came) in
+    let t = tried (a .sought .settings) (a .masks .now) (a .sought .stop) (a .sought .pattern) (a .table .now) (a .stops .now) (a .specified .now) (a .bits .now) (s .pre .0) (s .pre .1 .0) (a .sought .closing) (l .slices) (j .closing) e in
+    (omega arith, passed-next (machine (a .sought .settings) (a .masks .now)) (a .sought .stop) (a .sought .closing) (paired (a .specified .now) (a .bits .now)) (l .slices) (c .before .before .before .before .before .before .loop-test .taken) (l .inv .1) (sym t ∙ nothing-none _ (sym (f .ensures) ∙ c .enum-told .given .1)))
 
 returns-2 : tie.Need-returns-2 Inv-loop μ-loop
 returns-2 c =
-    let s = c .before .before .before .before .before .before .before .before in
+    let s = c .before .before .before .before .before .before .before .before .before .before .before in
     let a = s .args in
-    reach-none (machine (a .settings) (a .masks .now)) (a .stop) (a .closing) (paired (a .specified .now) (a .bits .now)) (c .before .loop .slices) (omega arith) (c .before .loop .inv .1)
+    reach-none (machine (a .sought .settings) (a .masks .now)) (a .sought .stop) (a .sought .closing) (paired (a .specified .now) (a .bits .now)) (c .before .loop .slices) (omega arith) (c .before .loop .inv .1)
 
 pub descend-spec : {M : Type 1} → statement M
 descend-spec =

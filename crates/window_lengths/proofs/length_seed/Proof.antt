@@ -16,6 +16,12 @@ sub-place c = search needs
 mul-place : tie.Need-mul-place
 mul-place c = search needs
 
+mul-lowest : tie.Need-mul-lowest
+mul-lowest c = search needs
+
+shared-slice-read-lowest : tie.Need-shared-slice-read-lowest
+shared-slice-read-lowest c = search needs
+
 add-free : tie.Need-add-free
 add-free c = search needs
 
@@ -24,12 +30,6 @@ mul-free c = search needs
 
 shared-slice-read-free : tie.Need-shared-slice-read-free
 shared-slice-read-free c = search needs
-
-mul-t17 : tie.Need-mul-t17
-mul-t17 c = search needs
-
-shared-slice-read-t20 : tie.Need-shared-slice-read-t20
-shared-slice-read-t20 c = search needs
 
 load-requires : tie.Need-load-requires
 load-requires c κs = search needs
@@ -53,11 +53,11 @@ length-seed-spec =
     returns
     sub-place
     mul-place
+    mul-lowest
+    shared-slice-read-lowest
     add-free
     mul-free
     shared-slice-read-free
-    mul-t17
-    shared-slice-read-t20
     load-requires
     lowest-covering-requires
     returns-2)

@@ -1,7 +1,9 @@
 -- `window_longest::reach` meets its contract. Assumes nothing.
+use mathlib.Core.Path.{sym}
+use Prim.Native.Nat.{ℕ}
 use native.Mathlib.Omega.{arith}
 use native.Mathlib.Nat.{suc-mul}
-use lib.ListN.{length}
+use lib.ListN.{length, length-replicate}
 use Rattle.machine_register.proofs.Causes.{cells-within}
 use Rattle.window_tables.proofs.Tables.{stop-rows}
 use borrow.Author.Needs.{needs}
@@ -16,20 +18,26 @@ most-quiet-requires c κs =
       (
         omega (arith, suc-mul (length (a .specified .now)) (length (a .masks .now)), s .pre .0 .table .long),
         (
-          cells-within (a .settings .cells) (a .settings .taps) (s .pre .0 .register) .1,
-          stop-rows (a .settings) (a .masks .now) (a .stop) (a .pattern) (a .table .now) (a .clauses .now) (length (a .specified .now)) (s .pre .0),
+          cells-within (a .sought .settings .cells) (a .sought .settings .taps) (s .pre .0 .register) .1,
+          stop-rows (a .sought .settings) (a .masks .now) (a .sought .stop) (a .sought .pattern) (a .table .now) (a .stops .now) (length (a .specified .now)) (s .pre .0),
         ),
       ),
     )
 
-reach-short-requires : tie.Need-reach-short-requires
-reach-short-requires c κs = search needs
+slice-aggregate-reach-with : tie.Need-slice-aggregate-reach-with
+slice-aggregate-reach-with c = sym (length-replicate {A = ℕ} _ 0)
+
+reach-with-requires : tie.Need-reach-with-requires
+reach-with-requires c κs = search needs
 
 returns : tie.Need-returns
 returns c = search needs
 
-reach-long-requires : tie.Need-reach-long-requires
-reach-long-requires c κs = search needs
+slice-aggregate-reach-with-2 : tie.Need-slice-aggregate-reach-with-2
+slice-aggregate-reach-with-2 c = sym (length-replicate {A = ℕ} _ 0)
+
+reach-with-requires-2 : tie.Need-reach-with-requires-2
+reach-with-requires-2 c κs = search needs
 
 returns-2 : tie.Need-returns-2
 returns-2 c = search needs
@@ -37,4 +45,11 @@ returns-2 c = search needs
 pub reach-spec : {M : Type 1} → statement M
 reach-spec =
     tie.close
-    (tie.spec most-quiet-requires reach-short-requires returns reach-long-requires returns-2)
+    (tie.spec
+    most-quiet-requires
+    slice-aggregate-reach-with
+    reach-with-requires
+    returns
+    slice-aggregate-reach-with-2
+    reach-with-requires-2
+    returns-2)

@@ -31,7 +31,7 @@ grow-requires c κs =
       slices-take (length (a .masks .now)) (a .quiet) (a .specified .now) (a .bits .now) (s .pre .1 .0),
       (
         omega (arith, mul-le-mul-right {m = length (take (a .quiet) (a .specified .now))} {n = length (a .specified .now)} (length (a .masks .now)) (omega (arith, length-take (a .quiet) (a .specified .now))), suc-mul (length (a .specified .now)) (length (a .masks .now)), s .pre .0 .table .long),
-        cells-within (a .settings .cells) (a .settings .taps) (s .pre .0 .register) .1,
+        cells-within (a .sought .settings .cells) (a .sought .settings .taps) (s .pre .0 .register) .1,
       ),
     )
 
@@ -40,7 +40,7 @@ descend-requires c κs =
     let s = c .before .before .before .before .before .before .before .before .before .before .before .before .before in
     let a = s .args in
     let g = c .before .before .before .grow in
-    (s .pre .0, (s .pre .1 .0, grown-part (length (a .masks .now)) (a .table .now) (a .pattern) (a .clauses .now) (a .specified .now) (a .bits .now) (s .pre .1 .0) (a .settings .cells) _ (a .quiet) (g .result) (s .pre .1 .1) (g .ensures)))
+    (s .pre .0, (s .pre .1 .0, grown-part (length (a .masks .now)) (a .table .now) (a .sought .pattern) (a .stops .now) (a .specified .now) (a .bits .now) (s .pre .1 .0) (a .sought .settings .cells) _ (a .quiet) (g .result) (s .pre .1 .1) (g .ensures)))
 
 same-length : tie.Need-same-length
 same-length c = search needs

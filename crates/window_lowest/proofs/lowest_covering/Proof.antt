@@ -21,7 +21,7 @@ close-requires : tie.Need-close-requires
 close-requires c κs =
     let s = c .before .before .before .before .before .before in
     let a = s .args in
-    (slice-formed (length (a .masks .now)) (a .stop) (stop-slice (length (a .masks .now)) (a .stop) (s .pre .0 .stop)) .among, row-fits (length (a .specified .now)) (suc (length (a .specified .now))) (length (a .masks .now)) (length (a .table .now)) (omega arith) (s .pre .0 .table .long))
+    (slice-formed (length (a .masks .now)) (a .sought .stop) (stop-slice (length (a .masks .now)) (a .sought .stop) (s .pre .0 .stop)) .among, row-fits (length (a .specified .now)) (suc (length (a .specified .now))) (length (a .masks .now)) (length (a .table .now)) (omega arith) (s .pre .0 .table .long))
 
 returns : tie.Need-returns
 returns c =
@@ -29,7 +29,7 @@ returns c =
     let a = s .args in
     let x = c .before .before .before .close in
     let us = take (x .result .free) (x .last .0) in
-    sym (ap foundOf (seed-none (a .settings) (a .masks .now) (a .stop) (a .pattern) (a .table .now) (a .clauses .now) (a .specified .now) (a .bits .now) (s .pre .0) (s .pre .1 .0) (a .closing) (a .space) (take (a .space .free) (a .vectors)) (s .pre .1 .1) (x .result) us (x .ensures) (x .result) us (keeps-none _ (x .result) us) (not-true (x .result .some) (c .if1 .taken))))
+    sym (ap foundOf (seed-none (a .sought .settings) (a .masks .now) (a .sought .stop) (a .sought .pattern) (a .table .now) (a .stops .now) (a .specified .now) (a .bits .now) (s .pre .0) (s .pre .1 .0) (a .sought .closing) (a .space) (take (a .space .free) (a .vectors)) (s .pre .1 .1) (x .result) us (x .ensures) (x .result) us (keeps-none _ (x .result) us) (not-true (x .result .some) (c .if1 .taken))))
 
 slice-aggregate-force : tie.Need-slice-aggregate-force
 slice-aggregate-force c = search needs
@@ -38,7 +38,7 @@ force-requires : tie.Need-force-requires
 force-requires c κs =
     let s = c .before .before .before .before .before .before .before .before .before .before .before in
     let a = s .args in
-    stop-rows (a .settings) (a .masks .now) (a .stop) (a .pattern) (a .table .now) (a .clauses .now) (length (a .specified .now)) (s .pre .0)
+    stop-rows (a .sought .settings) (a .masks .now) (a .sought .stop) (a .sought .pattern) (a .table .now) (a .stops .now) (length (a .specified .now)) (s .pre .0)
 
 returns-2 : tie.Need-returns-2
 returns-2 c =
@@ -48,7 +48,7 @@ returns-2 c =
     let o = c .before .before .before .force in
     let us = take (x .result .free) (x .last .0) in
     let vs = take (o .result .free) (o .last .1 .1 .1 .0) in
-    sym (ap foundOf (seed-none (a .settings) (a .masks .now) (a .stop) (a .pattern) (a .table .now) (a .clauses .now) (a .specified .now) (a .bits .now) (s .pre .0) (s .pre .1 .0) (a .closing) (a .space) (take (a .space .free) (a .vectors)) (s .pre .1 .1) (x .result) us (x .ensures) (o .result) vs (o .ensures) (not-true (o .result .some) (c .if2 .taken))))
+    sym (ap foundOf (seed-none (a .sought .settings) (a .masks .now) (a .sought .stop) (a .sought .pattern) (a .table .now) (a .stops .now) (a .specified .now) (a .bits .now) (s .pre .0) (s .pre .1 .0) (a .sought .closing) (a .space) (take (a .space .free) (a .vectors)) (s .pre .1 .1) (x .result) us (x .ensures) (o .result) vs (o .ensures) (not-true (o .result .some) (c .if2 .taken))))
 
 lowest-clear-requires : tie.Need-lowest-clear-requires
 lowest-clear-requires c κs =
@@ -58,8 +58,8 @@ lowest-clear-requires c κs =
     let o = c .before .before .before .force in
     let us = take (x .result .free) (x .last .0) in
     let vs = take (o .result .free) (o .last .1 .1 .1 .0) in (
-      seed-rising (a .settings) (a .masks .now) (a .stop) (a .pattern) (a .table .now) (a .clauses .now) (a .specified .now) (a .bits .now) (s .pre .0) (s .pre .1 .0) (a .closing) (a .space) (take (a .space .free) (a .vectors)) (s .pre .1 .1) (x .result) us (x .ensures) (o .result) vs (o .ensures) (not-false (o .result .some) (c .if2 .left)),
-      stop-rows (a .settings) (a .masks .now) (a .stop) (a .pattern) (a .table .now) (a .clauses .now) (length (a .specified .now)) (s .pre .0),
+      seed-rising (a .sought .settings) (a .masks .now) (a .sought .stop) (a .sought .pattern) (a .table .now) (a .stops .now) (a .specified .now) (a .bits .now) (s .pre .0) (s .pre .1 .0) (a .sought .closing) (a .space) (take (a .space .free) (a .vectors)) (s .pre .1 .1) (x .result) us (x .ensures) (o .result) vs (o .ensures) (not-false (o .result .some) (c .if2 .left)),
+      stop-rows (a .sought .settings) (a .masks .now) (a .sought .stop) (a .sought .pattern) (a .table .now) (a .stops .now) (length (a .specified .now)) (s .pre .0),
     )
 
 returns-3 : tie.Need-returns-3
@@ -71,7 +71,7 @@ returns-3 c =
     let us = take (x .result .free) (x .last .0) in
     let vs = take (o .result .free) (o .last .1 .1 .1 .0) in
     c .lowest-clear .ensures
-    ∙ seed-lowest (a .settings) (a .masks .now) (a .stop) (a .pattern) (a .table .now) (a .clauses .now) (a .specified .now) (a .bits .now) (s .pre .0) (s .pre .1 .0) (a .closing) (a .space) (take (a .space .free) (a .vectors)) (s .pre .1 .1) (x .result) us (x .ensures) (o .result) vs (o .ensures) (not-false (o .result .some) (c .before .if2 .left))
+    ∙ seed-lowest (a .sought .settings) (a .masks .now) (a .sought .stop) (a .sought .pattern) (a .table .now) (a .stops .now) (a .specified .now) (a .bits .now) (s .pre .0) (s .pre .1 .0) (a .sought .closing) (a .space) (take (a .space .free) (a .vectors)) (s .pre .1 .1) (x .result) us (x .ensures) (o .result) vs (o .ensures) (not-false (o .result .some) (c .before .if2 .left))
 
 pub lowest-covering-spec : {M : Type 1} → statement M
 lowest-covering-spec =

@@ -16,10 +16,10 @@ use Rattle.window_quiet.proofs.most_quiet.Statement.{statement}
 use Rattle.window_quiet.proofs.most_quiet.Tie as tie
 
 abbrev Inv-loop : tie.InvT-loop
-Inv-loop cells pattern table clauses chains specified bits vectors₀ kept₀ slice₀ vectors kept slice = (slice ≤ length specified) × (length vectors ≡ 64) × Quiet chains table pattern clauses (paired specified bits) cells slice kept (take (kept .free) vectors)
+Inv-loop cells pattern table stops chains specified bits vectors₀ kept₀ slice₀ vectors kept slice = (slice ≤ length specified) × (length vectors ≡ 64) × Quiet chains table pattern stops (paired specified bits) cells slice kept (take (kept .free) vectors)
 
 abbrev μ-loop : tie.MeasureT-loop
-μ-loop cells pattern table clauses chains specified bits vectors₀ kept₀ slice₀ vectors kept slice = length specified - slice
+μ-loop cells pattern table stops chains specified bits vectors₀ kept₀ slice₀ vectors kept slice = length specified - slice
 
 units-requires : tie.Need-units-requires Inv-loop μ-loop
 units-requires c κs = search needs
@@ -28,7 +28,7 @@ loop-holds : tie.Need-loop-holds Inv-loop μ-loop
 loop-holds c =
     let s = c .before .before .before .before .before in
     let a = s .args in
-    (omega arith, search needs, rw (c .units .ensures) (quiet-start (a .chains) (a .table .now) (a .pattern) (a .clauses .now) (a .specified .now) (a .bits .now) (s .pre .0) (a .cells) (s .pre .1 .1 .0)))
+    (omega arith, search needs, rw (c .units .ensures) (quiet-start (a .chains) (a .table .now) (a .pattern) (a .stops .now) (a .specified .now) (a .bits .now) (s .pre .0) (a .cells) (s .pre .1 .1 .0)))
 
 mul-t13 : tie.Need-mul-t13 Inv-loop μ-loop
 mul-t13 c = search needs
@@ -62,7 +62,7 @@ force-row-requires : tie.Need-force-row-requires Inv-loop μ-loop
 force-row-requires c κs =
     let s = c .before .before .before .before .before .before .before .before .before .before .before .before .before in
     let a = s .args in
-    row-fits (c .before .before .before .before .before .before .before .loop .slice) (length (a .specified .now)) (a .pattern .columns) (length (a .clauses .now)) (c .before .before .before .before .before .before .loop-test .taken) (s .pre .1 .1 .1)
+    row-fits (c .before .before .before .before .before .before .before .loop .slice) (length (a .specified .now)) (a .pattern .columns) (length (a .stops .now)) (c .before .before .before .before .before .before .loop-test .taken) (s .pre .1 .1 .1)
 
 returns : tie.Need-returns Inv-loop μ-loop
 returns c =
@@ -72,8 +72,8 @@ returns c =
     let m = c .before .before .before .before .before .before .meet-row in
     let o = c .before .before .before .force-row in
     let lt = c .before .before .before .before .before .before .before .before .before .before .loop-test .taken in
-    let q = quiet-next (a .chains) (a .table .now) (a .pattern) (a .clauses .now) (a .specified .now) (a .bits .now) (s .pre .0) (a .cells) (l .slice) (l .kept) (take (l .kept .free) (l .vectors)) (m .result) (m .last .0) (o .result) (o .last .1 .1 .1 .0) lt (l .inv .2) (m .ensures) (o .ensures) in
-    quiet-stop (a .chains) (a .table .now) (a .pattern) (a .clauses .now) (a .specified .now) (a .bits .now) (s .pre .0) (a .cells) (l .slice) (o .result) (take (o .result .free) (o .last .1 .1 .1 .0)) lt q (not-true (o .result .some) (c .if1 .taken))
+    let q = quiet-next (a .chains) (a .table .now) (a .pattern) (a .stops .now) (a .specified .now) (a .bits .now) (s .pre .0) (a .cells) (l .slice) (l .kept) (take (l .kept .free) (l .vectors)) (m .result) (m .last .0) (o .result) (o .last .1 .1 .1 .0) lt (l .inv .2) (m .ensures) (o .ensures) in
+    quiet-stop (a .chains) (a .table .now) (a .pattern) (a .stops .now) (a .specified .now) (a .bits .now) (s .pre .0) (a .cells) (l .slice) (o .result) (take (o .result .free) (o .last .1 .1 .1 .0)) lt q (not-true (o .result .some) (c .if1 .taken))
 
 add-slice : tie.Need-add-slice Inv-loop μ-loop
 add-slice c = let t = c .before .before .before .before .before .before .before .before .before .before .loop-test .taken in let g = c .before .before .before .before .before .before .before .before .before .before .before .before .before .before .before .before .before .good .1 .1 .1 .1 .1 .0 .0 in search needs
@@ -89,7 +89,7 @@ loop-again c =
     let m = c .before .before .before .before .before .before .meet-row in
     let o = c .before .before .before .force-row in
     let lt = c .before .before .before .before .before .before .before .before .before .before .loop-test .taken in
-    let q = quiet-next (a .chains) (a .table .now) (a .pattern) (a .clauses .now) (a .specified .now) (a .bits .now) (s .pre .0) (a .cells) (l .slice) (l .kept) (take (l .kept .free) (l .vectors)) (m .result) (m .last .0) (o .result) (o .last .1 .1 .1 .0) lt (l .inv .2) (m .ensures) (o .ensures) in
+    let q = quiet-next (a .chains) (a .table .now) (a .pattern) (a .stops .now) (a .specified .now) (a .bits .now) (s .pre .0) (a .cells) (l .slice) (l .kept) (take (l .kept .free) (l .vectors)) (m .result) (m .last .0) (o .result) (o .last .1 .1 .1 .0) lt (l .inv .2) (m .ensures) (o .ensures) in
     (omega (arith, lt), o .kept .1 .1 .1 .0 ∙ m .kept .0 ∙ l .inv .1, q)
 
 returns-2 : tie.Need-returns-2 Inv-loop μ-loop
@@ -97,7 +97,7 @@ returns-2 c =
     let s = c .before .before .before .before .before .before .before in
     let a = s .args in
     let l = c .before .loop in
-    most-end (quietMeet (a .chains) (a .table .now) (a .pattern) (a .clauses .now)) (paired (a .specified .now) (a .bits .now)) (a .cells) (l .slice) (omega (arith, l .inv .0, slices-length (a .chains) (a .specified .now) (a .bits .now) (s .pre .0)))
+    most-end (quietMeet (a .chains) (a .table .now) (a .pattern) (a .stops .now)) (paired (a .specified .now) (a .bits .now)) (a .cells) (l .slice) (omega (arith, l .inv .0, slices-length (a .chains) (a .specified .now) (a .bits .now) (s .pre .0)))
 
 pub most-quiet-spec : {M : Type 1} → statement M
 most-quiet-spec =

@@ -7,7 +7,7 @@ use lib.ListN.{length}
 use borrow.Author.Needs.{needs}
 use Rattle.refusal_lengths.proofs.Lengths.{window-within}
 use Rattle.refusal_checks.proofs.Stopped.{window-formed}
-use Rattle.window_tables.proofs.Tables.{table-room, ready-tables}
+use Rattle.window_tables.proofs.Tables.{table-room, tables-filled}
 use Rattle.window_single.proofs.seed_of.Statement.{statement}
 use Rattle.window_single.proofs.seed_of.Tie as tie
 
@@ -21,18 +21,18 @@ fill-requires : tie.Need-fill-requires
 fill-requires c κs =
     let s = c .before .before .before .before in
     let a = s .args in
-    let w = window-formed (a .settings) (a .masks .now) (a .stop) (a .specified .now) (a .bits .now) (s .pre .0) in
-    table-room (length (a .specified .now) + 1) (length (a .masks .now)) (omega (arith, window-within (a .settings .limit) (length (a .specified .now)) (w .lengths) .1, s .pre .1)) (w .few)
+    let w = window-formed (a .settings) (a .masks .now) (a .stop) (a .specified .now) (a .bits .now) (s .pre) in
+    table-room (length (a .specified .now) + 1) (length (a .masks .now)) (omega (arith, window-within (a .settings .limit) (length (a .specified .now)) (w .lengths) .1, w .most)) (w .few)
 
-slice-aggregate-fill-clauses : tie.Need-slice-aggregate-fill-clauses
-slice-aggregate-fill-clauses c = search needs
+slice-aggregate-fill-stops : tie.Need-slice-aggregate-fill-stops
+slice-aggregate-fill-stops c = search needs
 
-fill-clauses-requires : tie.Need-fill-clauses-requires
-fill-clauses-requires c κs =
+fill-stops-requires : tie.Need-fill-stops-requires
+fill-stops-requires c κs =
     let s = c .before .before .before .before .before .before .before in
     let a = s .args in
-    let w = window-formed (a .settings) (a .masks .now) (a .stop) (a .specified .now) (a .bits .now) (s .pre .0) in
-    (w .few, table-room (length (a .specified .now) + 1) (length (a .masks .now)) (omega (arith, window-within (a .settings .limit) (length (a .specified .now)) (w .lengths) .1, s .pre .1)) (w .few))
+    let w = window-formed (a .settings) (a .masks .now) (a .stop) (a .specified .now) (a .bits .now) (s .pre) in
+    (w .few, table-room (length (a .specified .now) + 1) (length (a .masks .now)) (omega (arith, window-within (a .settings .limit) (length (a .specified .now)) (w .lengths) .1, w .most)) (w .few))
 
 slice-aggregate-found-anew : tie.Need-slice-aggregate-found-anew
 slice-aggregate-found-anew c = search needs
@@ -44,10 +44,10 @@ found-anew-requires : tie.Need-found-anew-requires
 found-anew-requires c κs =
     let s = c .before .before .before .before .before .before .before .before .before .before .before in
     let a = s .args in
-    let w = window-formed (a .settings) (a .masks .now) (a .stop) (a .specified .now) (a .bits .now) (s .pre .0) in
-    let k = c .before .before .before .fill-clauses in
+    let w = window-formed (a .settings) (a .masks .now) (a .stop) (a .specified .now) (a .bits .now) (s .pre) in
+    let k = c .before .before .before .fill-stops in
     let f = c .before .before .before .before .before .before .fill in (
-      rw (sym (add-one (length (a .specified .now)))) (ready-tables (a .settings) (a .masks .now) (a .stop) (k .result) (f .last .1 .1 .1 .0) (k .last .1 .1 .1 .1 .0) _ _ (length (a .specified .now) + 1) (w .register) (w .chains) (w .stop) (k .ensures .0) (f .ensures) (k .ensures .1)),
+      rw (sym (add-one (length (a .specified .now)))) (tables-filled (a .settings) (a .masks .now) (a .stop) (k .result) (f .last .1 .1 .1 .0) (k .last .1 .1 .1 .1 .0) _ _ (length (a .specified .now) + 1) (w .register) (w .chains) (w .stop) (k .ensures .0) (f .ensures) (k .ensures .1)),
       w .slices,
     )
 
@@ -64,8 +64,8 @@ seed-of-spec =
     add-rows
     slice-aggregate-fill
     fill-requires
-    slice-aggregate-fill-clauses
-    fill-clauses-requires
+    slice-aggregate-fill-stops
+    fill-stops-requires
     slice-aggregate-found-anew
     slice-aggregate-found-anew-2
     found-anew-requires

@@ -1,4 +1,4 @@
--- Clauses over a table of masks. A row of the table has one mask for each position of a pattern; a state shows the pattern in a row where each mask of the row reads the pattern's bit at its position. Row t of the table of a stop slice reads in the seed what its slice t has (document 01, "Covering and cutting").
+-- Rows of a table of masks. A row of the table has one mask for each position of a pattern; a state shows the pattern in a row where each mask of the row reads the pattern's bit at its position. Row t of the table of a stop slice reads in the seed what its slice t has (document 01, "Covering and cutting").
 --     row columns table t       the masks of row t
 --     reads masks bits s        each mask reads its bit in the state s; bit j of `bits` is that of mask j
 --     shown pattern table t s   s shows the pattern in row t

@@ -1,4 +1,4 @@
--- `window_tables::fill_clauses` meets its contract. Assumes nothing.
+-- `window_tables::fill_stops` meets its contract. Assumes nothing.
 use mathlib.Core.Path.{_≡_, sym, ap, ap₂, _∙_}
 use Prim.Native.Nat.{ℕ, min}
 use native.Mathlib.Omega.{arith}
@@ -8,9 +8,9 @@ use borrow.Author.Needs.{needs}
 use Rattle.search_table.specs.Chosen.{packed}
 use Rattle.search_table.proofs.Choosing.{chosen-few}
 use Rattle.search_rows.specs.declared.Pattern.{Pattern}
-use Rattle.window_tables.proofs.Clauses.{front-chosen, few-entries}
-use Rattle.window_tables.proofs.fill_clauses.Statement.{statement}
-use Rattle.window_tables.proofs.fill_clauses.Tie as tie
+use Rattle.window_tables.proofs.Chosen.{front-chosen, few-entries}
+use Rattle.window_tables.proofs.fill_stops.Statement.{statement}
+use Rattle.window_tables.proofs.fill_stops.Tie as tie
 
 slice-aggregate-choose : tie.Need-slice-aggregate-choose
 slice-aggregate-choose c = search needs
@@ -57,8 +57,8 @@ returns c =
       f .ensures ∙ rw (front-chosen (a .stop .specified) (a .masks .now) (o .last .1 .1 .0) _ (o .result) (o .ensures .0) (o .ensures .1)),
     )
 
-pub fill-clauses-spec : {M : Type 1} → statement M
-fill-clauses-spec =
+pub fill-stops-spec : {M : Type 1} → statement M
+fill-stops-spec =
     tie.close
     (tie.spec
     slice-aggregate-choose

@@ -1,11 +1,11 @@
 -- What the functions of expanding ask for.
---     Ready g masks             register and chains that fit words
+--     Sized g masks             register and chains that fit words
 use mathlib.Core.List.{List}
 use Prim.Native.Nat.{ℕ, _≤_}
 use lib.ListN.{length}
 use Rattle.machine_settings.specs.declared.Settings.{Settings}
 
-pub record Ready (g : Settings) (masks : List ℕ) : Type 0 where
+pub record Sized (g : Settings) (masks : List ℕ) : Type 0 where
   pub cells : g .cells ≤ 64
   pub limit : g .limit ≤ 256
   pub chains : length masks ≤ 64
