@@ -2,7 +2,7 @@
 --     cubes-formed               none of causes 1 to 4 holds
 --     cubes-stop, cubes-set      the stop slice may be asked for; with a stop slice that is well-formed, they are a set
 -- Assumes nothing.
-use mathlib.Core.Path.{_≡_, refl, _∙_}
+use mathlib.Core.Path.{_≡_, refl}
 use mathlib.Core.Bool.{false}
 use mathlib.Core.List.{List}
 use Prim.Native.Nat.{ℕ}
@@ -11,22 +11,19 @@ use Rattle.machine_settings.specs.declared.Settings.{Settings}
 use Rattle.machine_chains.proofs.Causes.{chains-counted}
 use Rattle.machine_slices.specs.declared.TestSlice.{TestSlice}
 use Rattle.machine_slices.specs.Slices.{badStop}
-use Rattle.refusal_lengths.specs.Lengths.{badSet, badCubes}
 use Rattle.refusal_order.specs.Order.{judged}
-use Rattle.refusal_checks.specs.Calls.{stoppedFaults, setFaults, cubesFaults, stopFaults}
-use Rattle.refusal_order.proofs.Order.{well-formed, formed-well}
-use Rattle.refusal_checks.proofs.Limited.{limit-good, limited-parts}
+use Rattle.refusal_checks.specs.Calls.{setFaults, cubesFaults, stopFaults}
+use Rattle.refusal_order.proofs.Order.{well-formed}
+use Rattle.refusal_checks.proofs.Formed as call
 use Rattle.refusal_lengths.proofs.Lengths.{cubes-lengths}
 use Rattle.encoder_cubes.specs.Formed.{CubesFormed}
 use Rattle.refusal_order.specs.declared.Verdict.the-variants as verdict
 
 module _ (g : Settings) (masks ps bs : List ℕ) where
   pub cubes-formed : (depth : ℕ) → judged (cubesFaults g masks depth ps bs) ≡ verdict.WellFormed → CubesFormed g masks ps bs
-  unfolding cubesFaults
   cubes-formed depth w =
-      let f = formed-well (cubesFaults g masks depth ps bs) w in
-      let p = limited-parts g (badCubes depth (length ps)) (f .lengths) in
-      record { register = f .register; chains = f .chains; limit = p .0; lengths = cubes-lengths depth (length ps) (p .2); slices = f .slices }
+      let f = call.cubes-formed g masks ps bs depth w in
+      record { register = f .register; chains = f .chains; few = f .few; limit = f .limit; most = f .most; lengths = cubes-lengths depth (length ps) (f .lengths); slices = f .slices }
 
   module _ (c : CubesFormed g masks ps bs) where
     pub cubes-stop : judged (stopFaults (length masks) ps bs) ≡ verdict.WellFormed
@@ -40,11 +37,5 @@ module _ (g : Settings) (masks ps bs : List ℕ) where
     })
 
     pub cubes-set : (st : TestSlice) → badStop (length masks) st ≡ false → judged (setFaults g masks st ps bs) ≡ verdict.WellFormed
-    unfolding setFaults stoppedFaults
-    cubes-set st b = well-formed (setFaults g masks st ps bs) (record {
-      register = c .register;
-      chains = c .chains;
-      lengths = limit-good g (badSet (length ps)) (c .limit) ∙ c .lengths;
-      slices = c .slices;
-      stop = b;
-    })
+    unfolding setFaults
+    cubes-set st b = call.formed-call g masks _ _ _ (record { register = c .register; chains = c .chains; few = c .few; limit = c .limit; most = c .most; lengths = c .lengths; slices = c .slices; stop = b })

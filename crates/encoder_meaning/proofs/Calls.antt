@@ -17,16 +17,14 @@ use Rattle.machine_settings.specs.declared.Settings.{Settings}
 use Rattle.machine_settings.specs.Machine.{Machine, machine}
 use Rattle.machine_register.proofs.Steps.{step-below}
 use Rattle.machine_slices.specs.declared.TestSlice.{TestSlice}
-use Rattle.machine_slices.specs.Slices.{paired}
+use Rattle.machine_slices.specs.Slices.{badSlices, badStop, paired}
 use Rattle.machine_slices.proofs.Formed.{slices-length}
 use Rattle.refusal_lengths.specs.Lengths.{badSet}
 use Rattle.refusal_order.specs.Order.{judged}
 use Rattle.refusal_checks.specs.Calls.{setFaults, listFaults}
 use Rattle.refusal_order.specs.declared.Verdict.{Verdict}
 use Rattle.refusal_lengths.proofs.Lengths.{set-within, list-seeds}
-use Rattle.refusal_order.proofs.Order.{well-formed}
-use Rattle.refusal_checks.proofs.Limited.{limit-good}
-use Rattle.refusal_checks.proofs.Stopped.{StoppedFormed, set-formed}
+use Rattle.refusal_checks.proofs.Formed.{Formed, set-formed, formed-call}
 use Rattle.theory_cutting.proofs.Parts.{covering-length, cuts-count}
 use Rattle.theory_covering.specs.Rules.{Rules, rules}
 use Rattle.theory_covering.specs.Windows.{CoveredBy, ok}
@@ -51,7 +49,7 @@ module _ (g : Settings) (masks : List ℕ) (stop : TestSlice) (specified bits : 
   abbrev verdict-of : Verdict
   verdict-of = judged (setFaults g masks stop specified bits)
 
-  formed : verdict-of ≡ verdict.WellFormed → StoppedFormed (badSet (length specified)) g masks stop specified bits
+  formed : verdict-of ≡ verdict.WellFormed → Formed g masks (badSet (length specified)) (badSlices (length masks) specified bits) (badStop (length masks) stop)
   formed w = set-formed g masks stop specified bits w
 
   set-length : verdict-of ≡ verdict.WellFormed → length set ≡ length specified
@@ -64,10 +62,13 @@ module _ (g : Settings) (masks : List ℕ) (stop : TestSlice) (specified bits : 
   list-formed : verdict-of ≡ verdict.WellFormed → (seeds : List ℕ) → Shortest M R set seeds
       → judged (listFaults g masks stop (length specified) (length seeds)) ≡ verdict.WellFormed
   unfolding listFaults
-  list-formed w seeds l = well-formed (listFaults g masks stop (length specified) (length seeds)) (record {
+  list-formed w seeds l = formed-call g masks _ _ _ (record {
     register = formed w .register;
     chains = formed w .chains;
-    lengths = limit-good g _ (formed w .limit) ∙ list-seeds (length specified) (length seeds) (formed w .lengths) ∙ le-ltb 2048 (length seeds) (few-seeds w seeds l);
+    few = formed w .few;
+    limit = formed w .limit;
+    most = formed w .most;
+    lengths = list-seeds (length specified) (length seeds) (formed w .lengths) ∙ le-ltb 2048 (length seeds) (few-seeds w seeds l);
     slices = refl;
     stop = formed w .stop;
   })

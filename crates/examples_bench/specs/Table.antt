@@ -26,7 +26,7 @@ use Rattle.machine_slices.specs.declared.TestSlice.{TestSlice}
 use Rattle.machine_slices.specs.Slices.{agrees, shows, paired, badSlice, badSlices, badStop}
 use Rattle.refusal_lengths.specs.Lengths.{badLimit, badWindow, badSet, badCubes, badList}
 use Rattle.refusal_order.specs.Order.{tests, firstOf, judged}
-use Rattle.refusal_checks.specs.Calls.{limited, stoppedFaults, windowFaults, setFaults, cubesFaults, stopFaults, listFaults}
+use Rattle.refusal_checks.specs.Calls.{limited, callFaults, windowFaults, setFaults, cubesFaults, stopFaults, listFaults}
 use Rattle.theory_cutting.specs.Greedy.{reach, hop, ends, greedy}
 use Rattle.stop_steps.specs.Steps.{filter, count, better, choice, settle, keep, setBy, advance, stage, ended, stopFor}
 use Rattle.stop_slice.specs.Entry.{stopOr6, stopOf}
@@ -159,5 +159,5 @@ tolds [] = []
 tolds (r ∷ rs) = r .told ∷ tolds rs
 
 pub starred : answers table ≡ tolds table
-unfolding answers tolds answer refusal states showings of-formed of-seed of-written of-encoded yes digit odd beyond ones onesIn within any leastBelow lastBelow refuse fill step badRegister chainsSlice badCount badMask badChains agrees shows paired badSlice badSlices badStop badLimit badWindow badSet badCubes badList tests firstOf judged limited stoppedFaults windowFaults setFaults cubesFaults stopFaults listFaults reach hop ends greedy filter count better choice settle keep setBy advance stage ended stopFor stopOr6 stopOf fits quiet covers seedOf before far placed closes seedAt ok lowestOr7 windowSeed slicesOf firstStop ending delivers after adding walk totalled expanding expandList seedsOf planned encoding encodeSet stopped withStop cubesEncoding encodeCubes isCharacter specifiedAt bitAt inFront rowOf
+unfolding answers tolds answer refusal states showings of-formed of-seed of-written of-encoded yes digit odd beyond ones onesIn within any leastBelow lastBelow refuse fill step badRegister chainsSlice badCount badMask badChains agrees shows paired badSlice badSlices badStop badLimit badWindow badSet badCubes badList tests firstOf judged limited callFaults windowFaults setFaults cubesFaults stopFaults listFaults reach hop ends greedy filter count better choice settle keep setBy advance stage ended stopFor stopOr6 stopOf fits quiet covers seedOf before far placed closes seedAt ok lowestOr7 windowSeed slicesOf firstStop ending delivers after adding walk totalled expanding expandList seedsOf planned encoding encodeSet stopped withStop cubesEncoding encodeCubes isCharacter specifiedAt bitAt inFront rowOf
 starred = refl

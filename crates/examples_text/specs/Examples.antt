@@ -19,7 +19,7 @@ use Rattle.machine_chains.specs.Chains.{slice, badCount, badMask, badChains}
 use Rattle.machine_slices.specs.Slices.{agrees, shows, paired, badSlice, badSlices, badStop}
 use Rattle.refusal_lengths.specs.Lengths.{badLimit, badSet, badCubes, badList}
 use Rattle.refusal_order.specs.Order.{tests, firstOf, judged}
-use Rattle.refusal_checks.specs.Calls.{limited, cubesFaults, listFaults}
+use Rattle.refusal_checks.specs.Calls.{limited, callFaults, cubesFaults, listFaults}
 use Rattle.theory_cutting.specs.Greedy.{reach, hop, ends, greedy}
 use Rattle.stop_steps.specs.Steps.{filter, count, better, choice, settle, keep, setBy, advance, stage, ended, stopFor}
 use Rattle.theory_covering.specs.Covering.{fits, quiet, covers, seedOf}
@@ -179,5 +179,5 @@ tolds [] = []
 tolds (r ∷ rs) = r .told ∷ tolds rs
 
 pub worked : answers table ≡ tolds table
-unfolding answers tolds answer of-call ones onesIn within any leastBelow lastBelow digit odd beyond refuse fill step badRegister slice badCount badMask badChains agrees shows paired badSlice badSlices badStop badLimit badSet badCubes badList tests firstOf judged limited cubesFaults listFaults reach hop ends greedy filter count better choice settle keep setBy advance stage ended stopFor fits quiet covers seedOf before far placed closes seedAt ok slicesOf firstStop ending delivers after adding walk totalled expanding expandList seedsOf planned encoding stopped withStop cubesEncoding encodeCubes starts name keyOf rank same notation longest worth digits leadingZero number isCharacter specifiedAt bitAt inFront rowOf numbered sliced characters valued keyed named formed split isItem inOrder outOfRange rangeCause tested ranged saying afterChains afterMask moved mayEnd causeOf refusedAt takenOf refusalOfLine endOf reading readingOf picked lastOr glyph lastDigits numeral character charactersOf numberLine numberLines sliceLine sliceLines headText listText refusedText listReply slicesReply encoded expanded sheetReply seedListReply concluded encodeReply expandReply printed encodeText expandText answered called encodeCall expandCall
+unfolding answers tolds answer of-call ones onesIn within any leastBelow lastBelow digit odd beyond refuse fill step badRegister slice badCount badMask badChains agrees shows paired badSlice badSlices badStop badLimit badSet badCubes badList tests firstOf judged limited callFaults cubesFaults listFaults reach hop ends greedy filter count better choice settle keep setBy advance stage ended stopFor fits quiet covers seedOf before far placed closes seedAt ok slicesOf firstStop ending delivers after adding walk totalled expanding expandList seedsOf planned encoding stopped withStop cubesEncoding encodeCubes starts name keyOf rank same notation longest worth digits leadingZero number isCharacter specifiedAt bitAt inFront rowOf numbered sliced characters valued keyed named formed split isItem inOrder outOfRange rangeCause tested ranged saying afterChains afterMask moved mayEnd causeOf refusedAt takenOf refusalOfLine endOf reading readingOf picked lastOr glyph lastDigits numeral character charactersOf numberLine numberLines sliceLine sliceLines headText listText refusedText listReply slicesReply encoded expanded sheetReply seedListReply concluded encodeReply expandReply printed encodeText expandText answered called encodeCall expandCall
 worked = refl

@@ -22,14 +22,14 @@ use Rattle.refusal_causes.proofs.Outcome.{fill-whole, fill-short}
 use Rattle.machine_settings.specs.declared.Settings.{Settings}
 use Rattle.machine_settings.specs.Machine.{Machine, machine}
 use Rattle.machine_register.proofs.Causes.{cells-within}
-use Rattle.machine_chains.proofs.Causes.{chains-within}
 use Rattle.machine_slices.specs.declared.TestSlice.{TestSlice}
+use Rattle.machine_slices.specs.Slices.{badStop}
 use Rattle.refusal_order.specs.Order.{judged}
 use Rattle.refusal_checks.specs.Calls.{listFaults}
 use Rattle.refusal_order.specs.declared.Verdict.{Verdict}
+use Rattle.refusal_lengths.specs.Lengths.{badList}
 use Rattle.refusal_lengths.proofs.Lengths.{list-within}
-use Rattle.refusal_checks.proofs.Limited.{limited-parts}
-use Rattle.refusal_order.proofs.Order.{NoFault, formed-well}
+use Rattle.refusal_checks.proofs.Formed.{Formed, list-formed}
 use Rattle.theory_covering.specs.Rules.{Rules, rules}
 use Rattle.expander_meaning.specs.Expanding.{Walk, ran, failed, walk, totalled, expanding, expandList}
 use Rattle.expander_meaning.specs.Sized.{Sized}
@@ -98,13 +98,11 @@ module _ (g : Settings) (masks : List ℕ) (stop : TestSlice) (n : ℕ) (seeds o
     unfolding expandList
     call-formed = rw (w, expandList)
 
-    faultless : NoFault (listFaults g masks stop n (length seeds))
-    faultless = formed-well (listFaults g masks stop n (length seeds)) w
+    formed : Formed g masks (badList n (length seeds)) false (badStop (length masks) stop)
+    formed = list-formed g masks stop n (length seeds) w
 
     pub call-sized : Sized g masks
-    unfolding listFaults
-    call-sized = record { cells = cells-within (g .cells) (g .taps) (faultless .register) .1; limit = limited-parts g _ (faultless .lengths) .1; chains = chains-within (g .cells) masks (faultless .chains) .1 }
+    call-sized = record { cells = cells-within (g .cells) (g .taps) (formed .register) .1; limit = formed .most; chains = formed .few }
 
     pub few-seeds : length seeds ≤ 2048
-    unfolding listFaults
-    few-seeds = list-within n (length seeds) (limited-parts g _ (faultless .lengths) .2) .1
+    few-seeds = list-within n (length seeds) (formed .lengths) .1

@@ -1,3 +1,2 @@
--- The laws of cause 3, and of slices with their stop slice.
-pub mod Limited
-pub mod Stopped
+-- What the checks of a call with settings leave.
+pub mod Formed

@@ -1,6 +1,6 @@
 -- Which of causes 1 to 5 hold for what each kind of call hands in (document 01, "Refusal sheet"). A call that lacks a part is not refused by its cause.
---     limited          the limit of the settings, and the lengths of the call
---     stoppedFaults    slices with their stop slice, whose number is judged by the caller
+--     limited          cause 3: the limit of the settings, and the lengths of the call
+--     callFaults       a call with settings, whose own lengths, slices and stop slice are judged by the caller
 --     windowFaults     a window with its stop slice
 --     setFaults        a set with its stop slice
 --     cubesFaults      a set that comes as cubes, without a stop slice
@@ -18,33 +18,30 @@ use Rattle.machine_slices.specs.Slices.{badSlices, badStop}
 use Rattle.refusal_lengths.specs.Lengths.{badLimit, badWindow, badSet, badCubes, badList}
 use Rattle.refusal_order.specs.declared.Faults.{Faults}
 
--- Cause 3 of a call with settings.
 unfoldable pub limited : Settings → Bool → Bool
 limited g lengths = badLimit (g .limit) || lengths
 
-unfoldable pub stoppedFaults : Bool → Settings → List ℕ → TestSlice → List ℕ → List ℕ → Faults
-stoppedFaults lengths g masks stop specified bits = record {
+-- The register, the chains and the limit of every call with settings are judged here.
+unfoldable pub callFaults : Settings → List ℕ → Bool → Bool → Bool → Faults
+callFaults g masks lengths slices stop = record {
   register = badRegister (g .cells) (g .taps);
   chains = badChains (g .cells) masks;
   lengths = limited g lengths;
-  slices = badSlices (length masks) specified bits;
-  stop = badStop (length masks) stop;
+  slices = slices;
+  stop = stop;
 }
 
 unfoldable pub windowFaults : Settings → List ℕ → TestSlice → List ℕ → List ℕ → Faults
-windowFaults g masks stop specified bits = stoppedFaults (badWindow (g .limit) (length specified)) g masks stop specified bits
+windowFaults g masks stop specified bits = callFaults g masks (badWindow (g .limit) (length specified)) (badSlices (length masks) specified bits) (badStop (length masks) stop)
 
 unfoldable pub setFaults : Settings → List ℕ → TestSlice → List ℕ → List ℕ → Faults
-setFaults g masks stop specified bits = stoppedFaults (badSet (length specified)) g masks stop specified bits
+setFaults g masks stop specified bits = callFaults g masks (badSet (length specified)) (badSlices (length masks) specified bits) (badStop (length masks) stop)
 
 unfoldable pub cubesFaults : Settings → List ℕ → ℕ → List ℕ → List ℕ → Faults
-cubesFaults g masks depth specified bits = record {
-  register = badRegister (g .cells) (g .taps);
-  chains = badChains (g .cells) masks;
-  lengths = limited g (badCubes depth (length specified));
-  slices = badSlices (length masks) specified bits;
-  stop = false;
-}
+cubesFaults g masks depth specified bits = callFaults g masks (badCubes depth (length specified)) (badSlices (length masks) specified bits) false
+
+unfoldable pub listFaults : Settings → List ℕ → TestSlice → ℕ → ℕ → Faults
+listFaults g masks stop slices seeds = callFaults g masks (badList slices seeds) false (badStop (length masks) stop)
 
 unfoldable pub stopFaults : ℕ → List ℕ → List ℕ → Faults
 stopFaults chains specified bits = record {
@@ -53,13 +50,4 @@ stopFaults chains specified bits = record {
   lengths = badSet (length specified);
   slices = badSlices chains specified bits;
   stop = false;
-}
-
-unfoldable pub listFaults : Settings → List ℕ → TestSlice → ℕ → ℕ → Faults
-listFaults g masks stop slices seeds = record {
-  register = badRegister (g .cells) (g .taps);
-  chains = badChains (g .cells) masks;
-  lengths = limited g (badList slices seeds);
-  slices = false;
-  stop = badStop (length masks) stop;
 }

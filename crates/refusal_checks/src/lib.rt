@@ -5,7 +5,7 @@ use refusal_order::Faults;
 use refusal_order::Verdict;
 ghost use mathlib.Core.Path.{_≡_};
 ghost use Rattle.refusal_order.specs.Order.{judged};
-ghost use Rattle.refusal_checks.specs.Calls.{limited, stoppedFaults, windowFaults, setFaults, cubesFaults, listFaults, stopFaults};
+ghost use Rattle.refusal_checks.specs.Calls.{limited, callFaults, windowFaults, setFaults, cubesFaults, listFaults, stopFaults};
 
 // Cause 3 of a call with settings: their limit, and the lengths of the call.
 fn bad_lengths(settings: Settings, lengths: bool) -> bool
@@ -17,24 +17,16 @@ fn bad_lengths(settings: Settings, lengths: bool) -> bool
     lengths
 }
 
-// The checks of slices with their stop slice, once their number is judged.
-fn check_stopped(
-    lengths: bool,
-    settings: Settings,
-    masks: &[u64],
-    stop: TestSlice,
-    specified: &[u64],
-    bits: &[u64],
-) -> Verdict
-    ensures { λ r. ⌜ r ≡ judged (stoppedFaults lengths settings (now (masks .entry)) stop (now (specified .entry)) (now (bits .entry))) ⌝ }
+// The checks of a call with settings, once its own lengths, slices and stop slice are judged.
+fn check_call(settings: Settings, masks: &[u64], lengths: bool, slices: bool, stop: bool) -> Verdict
+    ensures { λ r. ⌜ r ≡ judged (callFaults settings (now (masks .entry)) lengths slices stop) ⌝ }
 {
-    let chains = masks.len();
     refusal_order::judge(Faults {
         register: machine_register::bad_register(settings.cells, settings.taps),
         chains: machine_chains::bad_chains(settings.cells, masks),
         lengths: bad_lengths(settings, lengths),
-        slices: machine_slices::bad_slices(chains, specified, bits),
-        stop: machine_slices::bad_stop(chains, stop),
+        slices,
+        stop,
     })
 }
 
@@ -48,13 +40,13 @@ pub fn check_window(
 ) -> Verdict
     ensures { λ r. ⌜ r ≡ judged (windowFaults settings (now (masks .entry)) stop (now (specified .entry)) (now (bits .entry))) ⌝ }
 {
-    check_stopped(
-        refusal_lengths::bad_window(settings.limit, specified.len()),
+    let chains = masks.len();
+    check_call(
         settings,
         masks,
-        stop,
-        specified,
-        bits,
+        refusal_lengths::bad_window(settings.limit, specified.len()),
+        machine_slices::bad_slices(chains, specified, bits),
+        machine_slices::bad_stop(chains, stop),
     )
 }
 
@@ -68,13 +60,13 @@ pub fn check_set(
 ) -> Verdict
     ensures { λ r. ⌜ r ≡ judged (setFaults settings (now (masks .entry)) stop (now (specified .entry)) (now (bits .entry))) ⌝ }
 {
-    check_stopped(
-        refusal_lengths::bad_set(specified.len()),
+    let chains = masks.len();
+    check_call(
         settings,
         masks,
-        stop,
-        specified,
-        bits,
+        refusal_lengths::bad_set(specified.len()),
+        machine_slices::bad_slices(chains, specified, bits),
+        machine_slices::bad_stop(chains, stop),
     )
 }
 
@@ -88,14 +80,13 @@ pub fn check_cubes(
 ) -> Verdict
     ensures { λ r. ⌜ r ≡ judged (cubesFaults settings (now (masks .entry)) depth (now (specified .entry)) (now (bits .entry))) ⌝ }
 {
-    let chains = masks.len();
-    refusal_order::judge(Faults {
-        register: machine_register::bad_register(settings.cells, settings.taps),
-        chains: machine_chains::bad_chains(settings.cells, masks),
-        lengths: bad_lengths(settings, refusal_lengths::bad_cubes(depth, specified.len())),
-        slices: machine_slices::bad_slices(chains, specified, bits),
-        stop: false,
-    })
+    check_call(
+        settings,
+        masks,
+        refusal_lengths::bad_cubes(depth, specified.len()),
+        machine_slices::bad_slices(masks.len(), specified, bits),
+        false,
+    )
 }
 
 // The checks of a set whose stop slice is asked for: only the number of its chains is handed in.
@@ -121,12 +112,11 @@ pub fn check_list(
 ) -> Verdict
     ensures { λ r. ⌜ r ≡ judged (listFaults settings (now (masks .entry)) stop slices seeds) ⌝ }
 {
-    let chains = masks.len();
-    refusal_order::judge(Faults {
-        register: machine_register::bad_register(settings.cells, settings.taps),
-        chains: machine_chains::bad_chains(settings.cells, masks),
-        lengths: bad_lengths(settings, refusal_lengths::bad_list(slices, seeds)),
-        slices: false,
-        stop: machine_slices::bad_stop(chains, stop),
-    })
+    check_call(
+        settings,
+        masks,
+        refusal_lengths::bad_list(slices, seeds),
+        false,
+        machine_slices::bad_stop(masks.len(), stop),
+    )
 }

@@ -28,7 +28,7 @@ use Rattle.refusal_order.specs.Order.{judged}
 use Rattle.refusal_checks.specs.Calls.{setFaults, cubesFaults}
 use Rattle.refusal_order.specs.declared.Verdict.{Verdict}
 use Rattle.refusal_order.specs.declared.Verdict.the-variants as verdict
-use Rattle.refusal_checks.proofs.Stopped.{set-formed}
+use Rattle.refusal_checks.proofs.Formed.{set-formed}
 use Rattle.theory_cutting.specs.Cutting.{Covering, no-state, state}
 use Rattle.stop_steps.specs.Steps.{stopFor}
 use Rattle.theory_covering.specs.Rules.{Rules, rules}

@@ -4,8 +4,8 @@
 use mathlib.Core.Bool.{Bool, true, false}
 use mathlib.Core.Option.{Option, none, some}
 use mathlib.Core.Path.{_≡_, refl, sym, ap, _∙_}
-use mathlib.Core.List.{List, [], _∷_}
-use Prim.Native.Nat.{ℕ, _+_, _≤_}
+use mathlib.Core.List.{List}
+use Prim.Native.Nat.{ℕ, _≤_}
 use native.Mathlib.Omega.{arith}
 use borrow.Author.Tests.{eqb-true}
 use lib.Dec.{eqb}
@@ -26,10 +26,7 @@ use Rattle.refusal_checks.specs.Calls.{setFaults, cubesFaults, listFaults}
 use Rattle.refusal_order.specs.declared.Verdict.{Verdict}
 use Rattle.refusal_order.specs.declared.Verdict.the-variants as verdict
 use Rattle.refusal_lengths.proofs.Lengths.{set-within, list-within}
-use Rattle.refusal_lengths.specs.Lengths.{badList}
-use Rattle.refusal_checks.proofs.Limited.{limited-parts}
-use Rattle.refusal_order.proofs.Order.{formed-well}
-use Rattle.refusal_checks.proofs.Stopped.{set-formed}
+use Rattle.refusal_checks.proofs.Formed.{set-formed, list-formed}
 use Rattle.theory_cutting.proofs.Parts.{covering-length, cuts-count}
 use Rattle.stop_steps.specs.Steps.{stopFor}
 use Rattle.theory_covering.specs.Rules.{rules}
@@ -38,7 +35,6 @@ use Rattle.theory_covering.proofs.Windows.{set-bounds}
 use Rattle.expander_meaning.specs.Expanding.{Walk, ran, failed, walk, totalled, expanding, expandList}
 use Rattle.encoder_cubes.specs.Cubes.{CubesOutcome, stopped, withStop, encodeCubes}
 use Rattle.encoder_meaning.specs.Meaning.{Listed, SetMeaning}
-use Rattle.encoder_cubes.specs.declared.Encoded.{Encoded}
 use Rattle.encoder_cubes.specs.declared.Encoded.the-variants as encodings
 use Rattle.encoder_cubes.proofs.Cubes.{cubes-means}
 use Rattle.encoder_meaning.proofs.Seeds.{covering-cuts}
@@ -141,7 +137,7 @@ module _ (g : Settings) (masks : List ℕ) (stop : TestSlice) (n : ℕ) (seeds :
 
   few : judged (listFaults g masks stop n (length seeds)) ≡ verdict.WellFormed → n ≤ 2048
   unfolding listFaults
-  few w = list-within n (length seeds) (limited-parts g (badList n (length seeds)) (formed-well (listFaults g masks stop n (length seeds)) w .lengths) .2) .0
+  few w = list-within n (length seeds) (list-formed g masks stop n (length seeds) w .lengths) .0
 
   expand-other : (c : Cause) → expandList g masks stop n seeds lent .answer ≡ written.Refused c → Other c
   unfolding expandList expanding refuse

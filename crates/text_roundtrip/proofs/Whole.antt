@@ -18,7 +18,7 @@ use Rattle.machine_slices.specs.declared.TestSlice.{TestSlice}
 use Rattle.machine_slices.specs.Slices.{agrees, paired}
 use Rattle.machine_slices.proofs.Formed.{slices-length}
 use Rattle.refusal_lengths.proofs.Lengths.{set-within}
-use Rattle.refusal_checks.proofs.Stopped.{set-formed}
+use Rattle.refusal_checks.proofs.Formed.{set-formed}
 use Rattle.text_keys.specs.declared.Key.the-variants as key
 use Rattle.stop_steps.specs.Steps.{stopFor}
 use Rattle.theory_covering.specs.Rules.{rules}

@@ -5,15 +5,6 @@ use Rattle.encode.proofs.reply.Statement.{statement}
 use Rattle.encode.proofs.reply.Tie as tie
 use Rattle.text_encode.proofs.Space.{encode-prints}
 
-encode-text-requires : tie.Need-encode-text-requires
-encode-text-requires c κs = search needs
-
-print-requires : tie.Need-print-requires
-print-requires c κs = search needs
-
-same-length : tie.Need-same-length
-same-length c = search needs
-
 returns : tie.Need-returns
 returns c =
     let p = c .before .before in
@@ -21,4 +12,4 @@ returns c =
     encode-prints _ _ (e .before .before .before .before .pre) _ _ _ _ (p .print .ensures .0) (p .print .ensures .1) (e .encode-text .ensures .0) (e .encode-text .ensures .1)
 
 pub reply-spec : {M : Type 1} → statement M
-reply-spec = tie.close (tie.spec encode-text-requires print-requires same-length returns)
+reply-spec = tie.close (tie.spec (λ c κs. search needs) (λ c κs. search needs) (λ c. search needs) returns)

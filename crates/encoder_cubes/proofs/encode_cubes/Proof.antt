@@ -10,12 +10,6 @@ use Rattle.encoder_cubes.proofs.encode_cubes.Statement.{statement}
 use Rattle.refusal_order.specs.declared.Verdict.the-variants as verdict
 use Rattle.encoder_cubes.proofs.encode_cubes.Tie as tie
 
-check-cubes-requires : tie.Need-check-cubes-requires
-check-cubes-requires c κs = search needs
-
-enum-known-verdict : tie.Need-enum-known-verdict
-enum-known-verdict c = search needs
-
 enum-told : tie.Need-enum-told
 enum-told c = search needs
 
@@ -32,9 +26,6 @@ returns c =
     let e = cubes-refused (a .settings) (a .masks .now) (a .specified .now) (a .bits .now) (a .out .now) (a .depth) _ (sym (k .ensures) ∙ c .before .verdict .given .1) in
     cubes-outcome (a .settings) (a .masks .now) (a .specified .now) (a .bits .now) (a .out .now) (a .depth) _ (a .out .now) (sym (ap (λ (o : CubesOutcome). o .answer) e)) (sym (ap (λ (o : CubesOutcome). o .buffer) e))
 
-same-length : tie.Need-same-length
-same-length c = search needs
-
 returns-2 : tie.Need-returns-2
 returns-2 c =
     let a = c .before .before .before .before .before .before .before .before .before .before .before .args in
@@ -48,10 +39,10 @@ pub encode-cubes-spec : {M : Type 1} → statement M
 encode-cubes-spec =
     tie.close
     (tie.spec
-    check-cubes-requires
-    enum-known-verdict
+    (λ c κs. search needs)
+    (λ c. search needs)
     enum-told
     encode-formed-requires
     returns
-    same-length
+    (λ c. search needs)
     returns-2)

@@ -10,15 +10,6 @@ use Rattle.encoder_cubes.proofs.Cubes.{stop-set, cubes-unstopped, cubes
 use Rattle.encoder_cubes.proofs.encode_formed.Statement.{statement}
 use Rattle.encoder_cubes.proofs.encode_formed.Tie as tie
 
-stop-slice-requires : tie.Need-stop-slice-requires
-stop-slice-requires c κs = search needs
-
-enum-known-formed : tie.Need-enum-known-formed
-enum-known-formed c = search needs
-
-enum-known-formed-2 : tie.Need-enum-known-formed-2
-enum-known-formed-2 c = search needs
-
 encode-requires : tie.Need-encode-requires
 encode-requires c κs =
     let s = c .before .before .before .before .before .before .before .before .before in
@@ -26,9 +17,6 @@ encode-requires c κs =
     let k = c .before .before .before .before .stop-slice in
     let e = steps-stop (length (a .masks .now)) (a .specified .now) (a .bits .now) (cubes-stop (a .settings) (a .masks .now) (a .specified .now) (a .bits .now) (s .pre)) _ (sym (k .ensures) ∙ c .before .before .formed2 .given .1) in
     stop-set (a .settings) (a .masks .now) (a .specified .now) (a .bits .now) (s .pre) _ e
-
-with-stop-requires : tie.Need-with-stop-requires
-with-stop-requires c κs = search needs
 
 returns : tie.Need-returns
 returns c =
@@ -38,9 +26,6 @@ returns c =
     let e = steps-refused (length (a .masks .now)) (a .specified .now) (a .bits .now) (cubes-stop (a .settings) (a .masks .now) (a .specified .now) (a .bits .now) (s .pre)) _ (sym (k .ensures) ∙ c .before .formed .given .1) in
     let o = cubes-unstopped (a .settings) (a .masks .now) (a .specified .now) (a .bits .now) (a .out .now) (e .0) in
     (ap Refused (e .1) ∙ sym (ap (λ (u : CubesOutcome). u .answer) o), sym (ap (λ (u : CubesOutcome). u .buffer) o))
-
-same-length : tie.Need-same-length
-same-length c = search needs
 
 returns-2 : tie.Need-returns-2
 unfolding withStop
@@ -57,11 +42,11 @@ pub encode-formed-spec : {M : Type 1} → statement M
 encode-formed-spec =
     tie.close
     (tie.spec
-    stop-slice-requires
-    enum-known-formed
-    enum-known-formed-2
+    (λ c κs. search needs)
+    (λ c. search needs)
+    (λ c. search needs)
     encode-requires
-    with-stop-requires
+    (λ c κs. search needs)
     returns
-    same-length
+    (λ c. search needs)
     returns-2)

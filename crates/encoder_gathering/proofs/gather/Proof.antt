@@ -39,9 +39,6 @@ far-requires c κs =
     let s = c .before .before .before .before .before .before .before .before .before .before .before in
     (s .pre .1 .1 .0 .0, omega (arith, s .pre .1 .1 .0 .1, c .loop-test .taken))
 
-mul-reach : tie.Need-mul-reach Inv-loop μ-loop
-mul-reach c = search needs
-
 sub-reach : tie.Need-sub-reach Inv-loop μ-loop
 sub-reach c =
     let i = c .before .before in
@@ -65,9 +62,6 @@ part-reach-end c =
     let a = s .args in
     let l = i .before .loop in
     part-bounds (a .sought .settings) (a .masks .now) (a .sought .stop) (a .sought .closing) (a .specified .now) (a .bits .now) (s .pre .1 .0) (l .place) (c .before .far .result) (omega (arith, i .loop-test .taken)) (c .before .far .ensures (a .sought .stop) (a .sought .closing)) .1
-
-mul-reach-2 : tie.Need-mul-reach-2 Inv-loop μ-loop
-mul-reach-2 c = search needs
 
 sub-reach-2 : tie.Need-sub-reach-2 Inv-loop μ-loop
 sub-reach-2 c =
@@ -104,9 +98,6 @@ reach-requires c κs =
       part-slices (a .sought .settings) (a .masks .now) (a .sought .stop) (a .sought .closing) (a .specified .now) (a .bits .now) (s .pre .1 .0) (l .place) (c .before .before .before .far .result) (omega (arith, i .loop-test .taken)) (c .before .before .before .far .ensures (a .sought .stop) (a .sought .closing)),
     )
 
-same-length : tie.Need-same-length Inv-loop μ-loop
-same-length c = search needs
-
 returns : tie.Need-returns Inv-loop μ-loop
 returns c =
     let i = c .before .before .before .before .before .before .before in
@@ -118,9 +109,6 @@ returns c =
     let w = part-window (a .sought .settings) (a .masks .now) (a .sought .stop) (a .sought .closing) (a .specified .now) (a .bits .now) (s .pre .1 .0) (l .place) (c .before .before .before .before .before .before .far .result) (omega (arith, i .loop-test .taken)) (c .before .before .before .before .before .before .far .ensures (a .sought .stop) (a .sought .closing)) (j .closing) e (c .before .before .reach .result) (c .before .before .reach .ensures) in
     gathering-answer (machine (a .sought .settings) (a .masks .now)) (segmentRules (a .sought .settings) (a .sought .stop) (a .sought .closing)) (paired (a .specified .now) (a .bits .now)) (a .seeds .now) (a .earlier) (l .place) (l .count) (l .seeds) (w .end ∙ omega (arith, c .if2 .taken)) (l .inv)
 
-mul-seeds : tie.Need-mul-seeds Inv-loop μ-loop
-mul-seeds c = search needs
-
 slice-write-seeds : tie.Need-slice-write-seeds Inv-loop μ-loop
 slice-write-seeds c =
     let i = c .before .before .before .before .before .before .before in
@@ -128,9 +116,6 @@ slice-write-seeds c =
     let a = s .args in
     let l = i .before .loop in
     omega (arith, l .inv .before, l .inv .same, s .pre .1 .1 .0 .2, s .pre .1 .1 .1 .0, i .loop-test .taken)
-
-add-count : tie.Need-add-count Inv-loop μ-loop
-add-count c = search needs
 
 add-place : tie.Need-add-place Inv-loop μ-loop
 add-place c =
@@ -166,9 +151,6 @@ loop-again c =
     let n = slices-length (length (a .masks .now)) (a .specified .now) (a .bits .now) (s .pre .1 .0) in
     gathering-next (machine (a .sought .settings) (a .masks .now)) (segmentRules (a .sought .settings) (a .sought .stop) (a .sought .closing)) (paired (a .specified .now) (a .bits .now)) (a .seeds .now) (a .earlier) (l .place) (l .count) (l .seeds) (omega (arith, i .loop-test .taken)) (l .inv) (r .result .slices) (r .result .seed) k (w .end) (w .within) (w .seed k)
 
-same-length-2 : tie.Need-same-length-2 Inv-loop μ-loop
-same-length-2 c = search needs
-
 returns-2 : tie.Need-returns-2 Inv-loop μ-loop
 returns-2 c =
     let s = c .before .before .before .before .before .before .before .before .before .before .before in
@@ -188,22 +170,22 @@ gather-spec =
     μ-loop
     loop-holds
     far-requires
-    mul-reach
+    (λ c. search needs)
     sub-reach
     part-reach-start
     part-reach-end
-    mul-reach-2
+    (λ c. search needs)
     sub-reach-2
     part-reach-start-2
     part-reach-end-2
     reach-requires
-    same-length
+    (λ c. search needs)
     returns
-    mul-seeds
+    (λ c. search needs)
     slice-write-seeds
-    add-count
+    (λ c. search needs)
     add-place
     loop-less
     loop-again
-    same-length-2
+    (λ c. search needs)
     returns-2)

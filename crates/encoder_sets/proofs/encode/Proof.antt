@@ -10,21 +10,12 @@ use Rattle.machine_settings.specs.Machine.{machine}
 use Rattle.machine_slices.specs.Slices.{paired}
 use Rattle.machine_slices.proofs.Formed.{slices-length}
 use Rattle.refusal_lengths.proofs.Lengths.{set-within}
-use Rattle.refusal_checks.proofs.Stopped.{set-formed}
+use Rattle.refusal_checks.proofs.Formed.{set-formed}
 use Rattle.theory_covering.specs.Rules.{rules}
 use Rattle.window_tables.proofs.Tables.{table-room, tables-filled}
 use Rattle.encoder_sets.proofs.Encoding.{settled-encoding, gathered-held}
 use Rattle.encoder_sets.proofs.encode.Statement.{statement}
 use Rattle.encoder_sets.proofs.encode.Tie as tie
-
-lesser-requires : tie.Need-lesser-requires
-lesser-requires c κs = search needs
-
-add-rows : tie.Need-add-rows
-add-rows c = search needs
-
-slice-aggregate-fill : tie.Need-slice-aggregate-fill
-slice-aggregate-fill c = search needs
 
 fill-requires : tie.Need-fill-requires
 fill-requires c κs =
@@ -33,9 +24,6 @@ fill-requires c κs =
     let w = set-formed (a .settings) (a .masks .now) (a .stop) (a .specified .now) (a .bits .now) (s .pre) in
     table-room (c .before .lesser .result + 1) (length (a .masks .now)) (omega (arith, w .most, c .before .lesser .ensures)) (w .few)
 
-slice-aggregate-fill-stops : tie.Need-slice-aggregate-fill-stops
-slice-aggregate-fill-stops c = search needs
-
 fill-stops-requires : tie.Need-fill-stops-requires
 fill-stops-requires c κs =
     let s = c .before .before .before .before .before .before .before .before .before in
@@ -43,15 +31,6 @@ fill-stops-requires c κs =
     let w = set-formed (a .settings) (a .masks .now) (a .stop) (a .specified .now) (a .bits .now) (s .pre) in
     let l = c .before .before .before .before .lesser in
     (w .few, table-room (l .result + 1) (length (a .masks .now)) (omega (arith, w .most, l .ensures)) (w .few))
-
-slice-aggregate-gather : tie.Need-slice-aggregate-gather
-slice-aggregate-gather c = search needs
-
-slice-aggregate-gather-2 : tie.Need-slice-aggregate-gather-2
-slice-aggregate-gather-2 c = search needs
-
-slice-aggregate-gather-3 : tie.Need-slice-aggregate-gather-3
-slice-aggregate-gather-3 c = search needs
 
 gather-requires : tie.Need-gather-requires
 gather-requires c κs =
@@ -66,9 +45,6 @@ gather-requires c κs =
       (w .slices, ((w .most, set-within (length (a .specified .now)) (w .lengths) .1, set-within (length (a .specified .now)) (w .lengths) .1), (omega arith, omega arith))),
     )
 
-slice-aggregate-settle : tie.Need-slice-aggregate-settle
-slice-aggregate-settle c = search needs
-
 settle-requires : tie.Need-settle-requires
 settle-requires c κs =
     let s = c .before .before .before .before .before .before .before .before .before .before .before .before .before .before .before .before .before .before in
@@ -77,9 +53,6 @@ settle-requires c κs =
     let room : length (paired (a .specified .now) (a .bits .now)) ≤ length {A = ℕ} (replicate 2048 0) = rw (length-replicate {A = ℕ} 2048 0) (omega (arith, set-within (length (a .specified .now)) (w .lengths) .1, slices-length (length (a .masks .now)) (a .specified .now) (a .bits .now) (w .slices))) in
     let r = c .before .before .before .gather in
     gathered-held (machine (a .settings) (a .masks .now)) _ (paired (a .specified .now) (a .bits .now)) _ room (r .result) (r .last .1 .1 .1 .1 .1 .1 .1 .0) (r .ensures .0) (r .ensures .1)
-
-same-length : tie.Need-same-length
-same-length c = search needs
 
 returns : tie.Need-returns
 returns c =
@@ -96,17 +69,17 @@ pub encode-spec : {M : Type 1} → statement M
 encode-spec =
     tie.close
     (tie.spec
-    lesser-requires
-    add-rows
-    slice-aggregate-fill
+    (λ c κs. search needs)
+    (λ c. search needs)
+    (λ c. search needs)
     fill-requires
-    slice-aggregate-fill-stops
+    (λ c. search needs)
     fill-stops-requires
-    slice-aggregate-gather
-    slice-aggregate-gather-2
-    slice-aggregate-gather-3
+    (λ c. search needs)
+    (λ c. search needs)
+    (λ c. search needs)
     gather-requires
-    slice-aggregate-settle
+    (λ c. search needs)
     settle-requires
-    same-length
+    (λ c. search needs)
     returns)

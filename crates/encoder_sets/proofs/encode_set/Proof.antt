@@ -11,12 +11,6 @@ use Rattle.encoder_sets.proofs.encode_set.Statement.{statement}
 use Rattle.refusal_order.specs.declared.Verdict.the-variants as verdict
 use Rattle.encoder_sets.proofs.encode_set.Tie as tie
 
-check-set-requires : tie.Need-check-set-requires
-check-set-requires c κs = search needs
-
-enum-known-verdict : tie.Need-enum-known-verdict
-enum-known-verdict c = search needs
-
 enum-told : tie.Need-enum-told
 enum-told c = search needs
 
@@ -29,9 +23,6 @@ returns c =
     let k = c .before .before .before .check-set in
     let p = refused-parts (encodeSet (a .settings) (a .masks .now) (a .stop) (a .specified .now) (a .bits .now) (a .out .now)) _ (a .out .now) (set-refused (a .settings) (a .masks .now) (a .stop) (a .specified .now) (a .bits .now) (a .out .now) _ (sym (k .ensures) ∙ c .before .verdict .given .1)) in
     set-outcome (a .settings) (a .masks .now) (a .stop) (a .specified .now) (a .bits .now) (a .out .now) _ (a .out .now) (p .0) (p .1)
-
-same-length : tie.Need-same-length
-same-length c = search needs
 
 returns-2 : tie.Need-returns-2
 returns-2 c =
@@ -46,10 +37,10 @@ pub encode-set-spec : {M : Type 1} → statement M
 encode-set-spec =
     tie.close
     (tie.spec
-    check-set-requires
-    enum-known-verdict
+    (λ c κs. search needs)
+    (λ c. search needs)
     enum-told
     encode-requires
     returns
-    same-length
+    (λ c. search needs)
     returns-2)

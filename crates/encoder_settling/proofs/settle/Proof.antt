@@ -18,12 +18,6 @@ returns-2 c =
     let a = s .args in
     refused-parts (settled (a .slices) (a .gathered) (a .seeds .now) (a .out .now)) _ (a .out .now) (settled-short (a .slices) (a .gathered) (a .seeds .now) (a .out .now) (c .before .if1 .left) (s .pre) (c .if2 .taken))
 
-copy-requires : tie.Need-copy-requires
-copy-requires c κs = search needs
-
-same-length : tie.Need-same-length
-same-length c = search needs
-
 returns-3 : tie.Need-returns-3
 returns-3 c =
     let s = c .before .before .before .before .before .before .before .before .before in
@@ -33,4 +27,4 @@ returns-3 c =
     (p .0, c .before .before .copy .ensures ∙ p .1)
 
 pub settle-spec : {M : Type 1} → statement M
-settle-spec = tie.close (tie.spec returns returns-2 copy-requires same-length returns-3)
+settle-spec = tie.close (tie.spec returns returns-2 (λ c κs. search needs) (λ c. search needs) returns-3)

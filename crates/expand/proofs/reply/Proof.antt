@@ -5,15 +5,6 @@ use Rattle.expand.proofs.reply.Statement.{statement}
 use Rattle.expand.proofs.reply.Tie as tie
 use Rattle.text_expand.proofs.Space.{expand-prints}
 
-expand-text-requires : tie.Need-expand-text-requires
-expand-text-requires c κs = search needs
-
-print-requires : tie.Need-print-requires
-print-requires c κs = search needs
-
-same-length : tie.Need-same-length
-same-length c = search needs
-
 returns : tie.Need-returns
 returns c =
     let p = c .before .before in
@@ -21,4 +12,4 @@ returns c =
     expand-prints _ _ (e .before .before .before .before .pre) _ _ _ _ (p .print .ensures .0) (p .print .ensures .1) (e .expand-text .ensures .0) (e .expand-text .ensures .1)
 
 pub reply-spec : {M : Type 1} → statement M
-reply-spec = tie.close (tie.spec expand-text-requires print-requires same-length returns)
+reply-spec = tie.close (tie.spec (λ c κs. search needs) (λ c κs. search needs) (λ c. search needs) returns)

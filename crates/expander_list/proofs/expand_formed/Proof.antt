@@ -12,15 +12,6 @@ use Rattle.expander_list.proofs.Outcomes.{found, found-refused, found-o
 use Rattle.expander_list.proofs.expand_formed.Statement.{statement}
 use Rattle.expander_list.proofs.expand_formed.Tie as tie
 
-total-of-requires : tie.Need-total-of-requires
-total-of-requires c κs = search needs
-
-enum-known-found : tie.Need-enum-known-found
-enum-known-found c = search needs
-
-enum-known-found-2 : tie.Need-enum-known-found-2
-enum-known-found-2 c = search needs
-
 returns : tie.Need-returns
 returns c =
     let a = c .before .before .before .before .before .before .before .before .args in
@@ -37,9 +28,6 @@ returns-2 c =
     let k : tally 0 (walk (machine (a .settings) (a .masks .now)) (rules (a .settings) (a .stop)) (a .slices) 0 0 (a .seeds .now)) ≡ Count t = sym e ∙ c .before .before .before .found2 .given .1 in
     refused-parts _ _ _ (found-short _ _ _ _ _ t (found _ _ _ _ (a .out .now) t k) (c .before .if1 .left) (c .if2 .taken))
 
-write-all-requires : tie.Need-write-all-requires
-write-all-requires c κs = search needs
-
 returns-3 : tie.Need-returns-3
 returns-3 c =
     let a = c .before .before .before .before .before .before .before .args in
@@ -47,9 +35,6 @@ returns-3 c =
     let x = c .before .found .given .0 .0 in
     let k : tally 0 (walk (machine (a .settings) (a .masks .now)) (rules (a .settings) (a .stop)) (a .slices) 0 0 (a .seeds .now)) ≡ Refused x = sym e ∙ c .before .found .given .1 in
     refused-parts _ _ _ (found-refused _ _ _ _ _ x k)
-
-same-length : tie.Need-same-length
-same-length c = search needs
 
 returns-4 : tie.Need-returns-4
 returns-4 c =
@@ -65,12 +50,12 @@ pub expand-formed-spec : {M : Type 1} → statement M
 expand-formed-spec =
     tie.close
     (tie.spec
-    total-of-requires
-    enum-known-found
-    enum-known-found-2
+    (λ c κs. search needs)
+    (λ c. search needs)
+    (λ c. search needs)
     returns
     returns-2
-    write-all-requires
+    (λ c κs. search needs)
     returns-3
-    same-length
+    (λ c. search needs)
     returns-4)

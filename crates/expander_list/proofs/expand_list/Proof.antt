@@ -11,12 +11,6 @@ use Rattle.expander_list.proofs.expand_list.Statement.{statement}
 use Rattle.refusal_order.specs.declared.Verdict.the-variants as verdict
 use Rattle.expander_list.proofs.expand_list.Tie as tie
 
-check-list-requires : tie.Need-check-list-requires
-check-list-requires c κs = search needs
-
-enum-known-verdict : tie.Need-enum-known-verdict
-enum-known-verdict c = search needs
-
 enum-told : tie.Need-enum-told
 enum-told c = search needs
 
@@ -31,9 +25,6 @@ returns c =
     let a = c .before .before .before .before .before .before .before .args in
     refused-parts _ _ _ (call-refused _ _ _ _ (a .seeds .now) (a .out .now) _ (sym (c .before .before .before .check-list .ensures) ∙ c .before .verdict .given .1))
 
-same-length : tie.Need-same-length
-same-length c = search needs
-
 returns-2 : tie.Need-returns-2
 returns-2 c =
     let a = c .before .before .before .before .before .before .before .before .before .before .args in
@@ -44,10 +35,10 @@ pub expand-list-spec : {M : Type 1} → statement M
 expand-list-spec =
     tie.close
     (tie.spec
-    check-list-requires
-    enum-known-verdict
+    (λ c κs. search needs)
+    (λ c. search needs)
     enum-told
     expand-formed-requires
     returns
-    same-length
+    (λ c. search needs)
     returns-2)

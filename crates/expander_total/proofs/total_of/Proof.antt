@@ -27,32 +27,8 @@ abbrev μ-seeds : tie.MeasureT-seeds
 seeds-holds : tie.Need-seeds-holds Inv-loop μ-loop Inv-seeds μ-seeds
 seeds-holds c = (omega arith, omega arith, λ n. tallied-start _ _ _ _ n)
 
-mul-state : tie.Need-mul-state Inv-loop μ-loop Inv-seeds μ-seeds
-mul-state c = search needs
-
-shared-slice-read-state : tie.Need-shared-slice-read-state Inv-loop μ-loop Inv-seeds μ-seeds
-shared-slice-read-state c = search needs
-
-beyond-requires : tie.Need-beyond-requires Inv-loop μ-loop Inv-seeds μ-seeds
-beyond-requires c κs = search needs
-
 loop-holds : tie.Need-loop-holds Inv-loop μ-loop Inv-seeds μ-seeds
 loop-holds c = searched-start _ _ _ _
-
-slice-requires : tie.Need-slice-requires Inv-loop μ-loop Inv-seeds μ-seeds
-slice-requires c κs = search needs
-
-shows-requires : tie.Need-shows-requires Inv-loop μ-loop Inv-seeds μ-seeds
-shows-requires c κs = search needs
-
-step-requires : tie.Need-step-requires Inv-loop μ-loop Inv-seeds μ-seeds
-step-requires c κs = search needs
-
-add-t : tie.Need-add-t Inv-loop μ-loop Inv-seeds μ-seeds
-add-t c = search needs
-
-loop-less : tie.Need-loop-less Inv-loop μ-loop Inv-seeds μ-seeds
-loop-less c = search needs
 
 loop-again : tie.Need-loop-again Inv-loop μ-loop Inv-seeds μ-seeds
 loop-again c =
@@ -64,12 +40,6 @@ loop-again c =
 
 add-total : tie.Need-add-total Inv-loop μ-loop Inv-seeds μ-seeds
 add-total c = omega (arith, c .before .before .before .before .loop .inv .within, c .before .before .before .before .before .before .before .before .before .seeds .inv .1, c .before .before .before .before .before .before .before .before .before .before .before .before .pre .0 .limit, c .before .before .before .before .before .before .before .before .before .before .before .before .pre .1, c .before .before .before .before .before .before .before .before .if1 .left)
-
-add-place : tie.Need-add-place Inv-loop μ-loop Inv-seeds μ-seeds
-add-place c = search needs
-
-seeds-less : tie.Need-seeds-less Inv-loop μ-loop Inv-seeds μ-seeds
-seeds-less c = search needs
 
 seeds-again : tie.Need-seeds-again Inv-loop μ-loop Inv-seeds μ-seeds
 seeds-again c =
@@ -121,19 +91,19 @@ total-of-spec =
     Inv-seeds
     μ-seeds
     seeds-holds
-    mul-state
-    shared-slice-read-state
-    beyond-requires
+    (λ c. search needs)
+    (λ c. search needs)
+    (λ c κs. search needs)
     loop-holds
-    slice-requires
-    shows-requires
-    step-requires
-    add-t
-    loop-less
+    (λ c κs. search needs)
+    (λ c κs. search needs)
+    (λ c κs. search needs)
+    (λ c. search needs)
+    (λ c. search needs)
     loop-again
     add-total
-    add-place
-    seeds-less
+    (λ c. search needs)
+    (λ c. search needs)
     seeds-again
     returns
     returns-2

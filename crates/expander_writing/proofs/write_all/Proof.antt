@@ -22,20 +22,8 @@ abbrev μ-loop : tie.MeasureT-loop
 loop-holds : tie.Need-loop-holds Inv-loop μ-loop
 loop-holds c = ((λ n vs w h. filled-start _ _ _ _ n vs _ w h), omega arith, omega arith, refl)
 
-mul-write-run : tie.Need-mul-write-run Inv-loop μ-loop
-mul-write-run c = search needs
-
-shared-slice-read-write-run : tie.Need-shared-slice-read-write-run Inv-loop μ-loop
-shared-slice-read-write-run c = search needs
-
 write-run-requires : tie.Need-write-run-requires Inv-loop μ-loop
 write-run-requires c κs = (c .before .before .before .before .before .before .before .pre, (let l = c .before .before .before .loop in omega (arith, l .inv .2, l .inv .3)))
-
-add-place : tie.Need-add-place Inv-loop μ-loop
-add-place c = search needs
-
-loop-less : tie.Need-loop-less Inv-loop μ-loop
-loop-less c = search needs
 
 loop-again : tie.Need-loop-again Inv-loop μ-loop
 loop-again c =
@@ -64,11 +52,11 @@ write-all-spec =
     Inv-loop
     μ-loop
     loop-holds
-    mul-write-run
-    shared-slice-read-write-run
+    (λ c. search needs)
+    (λ c. search needs)
     write-run-requires
-    add-place
-    loop-less
+    (λ c. search needs)
+    (λ c. search needs)
     loop-again
     same-length
     returns)

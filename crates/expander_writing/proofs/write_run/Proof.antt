@@ -19,20 +19,8 @@ abbrev μ-loop : tie.MeasureT-loop
 loop-holds : tie.Need-loop-holds Inv-loop μ-loop
 loop-holds c = writes-start _ _ _ _ _ (c .before .before .pre .1)
 
-slice-requires : tie.Need-slice-requires Inv-loop μ-loop
-slice-requires c κs = search needs
-
-shows-requires : tie.Need-shows-requires Inv-loop μ-loop
-shows-requires c κs = search needs
-
-mul-out : tie.Need-mul-out Inv-loop μ-loop
-mul-out c = search needs
-
 slice-write-out : tie.Need-slice-write-out Inv-loop μ-loop
 slice-write-out c = omega (arith, c .before .before .before .before .loop .inv .size)
-
-step-requires : tie.Need-step-requires Inv-loop μ-loop
-step-requires c κs = search needs
 
 add-i : tie.Need-add-i Inv-loop μ-loop
 add-i c = omega (arith, c .before .before .before .before .before .loop .inv .size)
@@ -74,11 +62,11 @@ write-run-spec =
     Inv-loop
     μ-loop
     loop-holds
-    slice-requires
-    shows-requires
-    mul-out
+    (λ c κs. search needs)
+    (λ c κs. search needs)
+    (λ c. search needs)
     slice-write-out
-    step-requires
+    (λ c κs. search needs)
     add-i
     loop-less
     loop-again

@@ -10,15 +10,6 @@ use Rattle.face_answers.proofs.answer_of.Tie as tie
 abbrev refusedAnswer : Refusal → Answer
 refusedAnswer r = record { number = r .number; value = r .value }
 
-enum-known-written : tie.Need-enum-known-written
-enum-known-written c = search needs
-
-enum-known-written-2 : tie.Need-enum-known-written-2
-enum-known-written-2 c = search needs
-
-refusal-of-requires : tie.Need-refusal-of-requires
-refusal-of-requires c κs = search needs
-
 returns : tie.Need-returns
 returns c = sym (ap answerOf (c .before .written .given .1))
 
@@ -28,4 +19,4 @@ returns-2 c = ap refusedAnswer (c .refusal-of .ensures) ∙ sym (ap answerOf (c 
 pub answer-of-spec : {M : Type 1} → statement M
 answer-of-spec =
     tie.close
-    (tie.spec enum-known-written enum-known-written-2 refusal-of-requires returns returns-2)
+    (tie.spec (λ c. search needs) (λ c. search needs) (λ c κs. search needs) returns returns-2)

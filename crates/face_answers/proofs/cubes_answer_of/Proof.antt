@@ -7,15 +7,6 @@ use Rattle.face_answers.specs.declared.CubesAnswer.{CubesAnswer}
 use Rattle.face_answers.proofs.cubes_answer_of.Statement.{statement}
 use Rattle.face_answers.proofs.cubes_answer_of.Tie as tie
 
-enum-known-encoded : tie.Need-enum-known-encoded
-enum-known-encoded c = search needs
-
-enum-known-encoded-2 : tie.Need-enum-known-encoded-2
-enum-known-encoded-2 c = search needs
-
-refusal-of-requires : tie.Need-refusal-of-requires
-refusal-of-requires c κs = search needs
-
 returns : tie.Need-returns
 returns c = sym (ap cubesAnswerOf (c .before .encoded .given .1))
 
@@ -27,4 +18,4 @@ returns-2 c =
 pub cubes-answer-of-spec : {M : Type 1} → statement M
 cubes-answer-of-spec =
     tie.close
-    (tie.spec enum-known-encoded enum-known-encoded-2 refusal-of-requires returns returns-2)
+    (tie.spec (λ c. search needs) (λ c. search needs) (λ c κs. search needs) returns returns-2)

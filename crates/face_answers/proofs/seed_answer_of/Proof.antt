@@ -7,15 +7,6 @@ use Rattle.face_answers.specs.declared.SeedAnswer.{SeedAnswer}
 use Rattle.face_answers.proofs.seed_answer_of.Statement.{statement}
 use Rattle.face_answers.proofs.seed_answer_of.Tie as tie
 
-enum-known-seed : tie.Need-enum-known-seed
-enum-known-seed c = search needs
-
-enum-known-seed-2 : tie.Need-enum-known-seed-2
-enum-known-seed-2 c = search needs
-
-refusal-of-requires : tie.Need-refusal-of-requires
-refusal-of-requires c κs = search needs
-
 returns : tie.Need-returns
 returns c = sym (ap seedAnswerOf (c .before .seed .given .1))
 
@@ -26,4 +17,4 @@ returns-2 c =
 
 pub seed-answer-of-spec : {M : Type 1} → statement M
 seed-answer-of-spec =
-    tie.close (tie.spec enum-known-seed enum-known-seed-2 refusal-of-requires returns returns-2)
+    tie.close (tie.spec (λ c. search needs) (λ c. search needs) (λ c κs. search needs) returns returns-2)

@@ -5,18 +5,9 @@ use borrow.Author.Needs.{needs}
 use Rattle.face_checks.proofs.check_cubes.Statement.{statement}
 use Rattle.face_checks.proofs.check_cubes.Tie as tie
 
-settings-of-requires : tie.Need-settings-of-requires
-settings-of-requires c κs = search needs
-
-check-cubes-requires : tie.Need-check-cubes-requires
-check-cubes-requires c κs = search needs
-
-number-requires : tie.Need-number-requires
-number-requires c κs = search needs
-
 returns : tie.Need-returns
 returns c = c .number .ensures ∙ ap numberOf (rw (c .before .before .settings-of .ensures) at (c .before .check-cubes .ensures))
 
 pub check-cubes-spec : {M : Type 1} → statement M
 check-cubes-spec =
-    tie.close (tie.spec settings-of-requires check-cubes-requires number-requires returns)
+    tie.close (tie.spec (λ c κs. search needs) (λ c κs. search needs) (λ c κs. search needs) returns)

@@ -5,14 +5,8 @@ use Rattle.face_checks.specs.Verdicts.{numberOf}
 use Rattle.face_checks.proofs.check_stop.Statement.{statement}
 use Rattle.face_checks.proofs.check_stop.Tie as tie
 
-check-stop-requires : tie.Need-check-stop-requires
-check-stop-requires c κs = search needs
-
-number-requires : tie.Need-number-requires
-number-requires c κs = search needs
-
 returns : tie.Need-returns
 returns c = c .number .ensures ∙ ap numberOf (c .before .check-stop .ensures)
 
 pub check-stop-spec : {M : Type 1} → statement M
-check-stop-spec = tie.close (tie.spec check-stop-requires number-requires returns)
+check-stop-spec = tie.close (tie.spec (λ c κs. search needs) (λ c κs. search needs) returns)

@@ -10,15 +10,6 @@ use Rattle.face_numbers.proofs.stop_answer_of.Tie as tie
 abbrev refusedStop : Refusal → StopAnswer
 refusedStop r = record { number = r .number; value = r .value; specified = 0; bits = 0 }
 
-enum-known-formed : tie.Need-enum-known-formed
-enum-known-formed c = search needs
-
-enum-known-formed-2 : tie.Need-enum-known-formed-2
-enum-known-formed-2 c = search needs
-
-refusal-of-requires : tie.Need-refusal-of-requires
-refusal-of-requires c κs = search needs
-
 returns : tie.Need-returns
 returns c = sym (ap stopAnswerOf (c .before .formed .given .1))
 
@@ -28,4 +19,4 @@ returns-2 c = ap refusedStop (c .refusal-of .ensures) ∙ sym (ap stopAnswerOf (
 pub stop-answer-of-spec : {M : Type 1} → statement M
 stop-answer-of-spec =
     tie.close
-    (tie.spec enum-known-formed enum-known-formed-2 refusal-of-requires returns returns-2)
+    (tie.spec (λ c. search needs) (λ c. search needs) (λ c κs. search needs) returns returns-2)

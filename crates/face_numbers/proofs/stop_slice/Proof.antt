@@ -5,14 +5,8 @@ use Rattle.face_numbers.specs.Stop.{stopAnswerOf}
 use Rattle.face_numbers.proofs.stop_slice.Statement.{statement}
 use Rattle.face_numbers.proofs.stop_slice.Tie as tie
 
-stop-slice-requires : tie.Need-stop-slice-requires
-stop-slice-requires c κs = search needs
-
-stop-answer-of-requires : tie.Need-stop-answer-of-requires
-stop-answer-of-requires c κs = search needs
-
 returns : tie.Need-returns
 returns c = c .stop-answer-of .ensures ∙ ap stopAnswerOf (c .before .stop-slice .ensures)
 
 pub stop-slice-spec : {M : Type 1} → statement M
-stop-slice-spec = tie.close (tie.spec stop-slice-requires stop-answer-of-requires returns)
+stop-slice-spec = tie.close (tie.spec (λ c κs. search needs) (λ c κs. search needs) returns)

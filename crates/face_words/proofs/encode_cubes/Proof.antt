@@ -7,18 +7,6 @@ use Rattle.face_values.specs.Values.{settingsOf}
 use Rattle.face_words.proofs.encode_cubes.Statement.{statement}
 use Rattle.face_words.proofs.encode_cubes.Tie as tie
 
-settings-of-requires : tie.Need-settings-of-requires
-settings-of-requires c κs = search needs
-
-encode-cubes-requires : tie.Need-encode-cubes-requires
-encode-cubes-requires c κs = search needs
-
-cubes-answer-of-requires : tie.Need-cubes-answer-of-requires
-cubes-answer-of-requires c κs = search needs
-
-same-length : tie.Need-same-length
-same-length c = search needs
-
 returns : tie.Need-returns
 returns c =
     let a = c .before .before .before .before .before .before .before .before .before .before .args in
@@ -28,4 +16,4 @@ returns c =
 
 pub encode-cubes-spec : {M : Type 1} → statement M
 encode-cubes-spec =
-    tie.close (tie.spec settings-of-requires encode-cubes-requires cubes-answer-of-requires same-length returns)
+    tie.close (tie.spec (λ c κs. search needs) (λ c κs. search needs) (λ c κs. search needs) (λ c. search needs) returns)

@@ -7,18 +7,6 @@ use Rattle.face_values.specs.Values.{settingsOf, testSliceOf}
 use Rattle.face_words.proofs.encode_set.Statement.{statement}
 use Rattle.face_words.proofs.encode_set.Tie as tie
 
-settings-of-requires : tie.Need-settings-of-requires
-settings-of-requires c κs = search needs
-
-encode-set-requires : tie.Need-encode-set-requires
-encode-set-requires c κs = search needs
-
-answer-of-requires : tie.Need-answer-of-requires
-answer-of-requires c κs = search needs
-
-same-length : tie.Need-same-length
-same-length c = search needs
-
 returns : tie.Need-returns
 returns c =
     let a = c .before .before .before .before .before .before .before .before .before .before .args in
@@ -28,4 +16,4 @@ returns c =
 
 pub encode-set-spec : {M : Type 1} → statement M
 encode-set-spec =
-    tie.close (tie.spec settings-of-requires encode-set-requires answer-of-requires same-length returns)
+    tie.close (tie.spec (λ c κs. search needs) (λ c κs. search needs) (λ c κs. search needs) (λ c. search needs) returns)

@@ -5,18 +5,6 @@ use Rattle.face_answers.specs.Answers.{answerOf}
 use Rattle.face_words.proofs.expand.Statement.{statement}
 use Rattle.face_words.proofs.expand.Tie as tie
 
-settings-of-requires : tie.Need-settings-of-requires
-settings-of-requires c κs = search needs
-
-expand-list-requires : tie.Need-expand-list-requires
-expand-list-requires c κs = search needs
-
-answer-of-requires : tie.Need-answer-of-requires
-answer-of-requires c κs = search needs
-
-same-length : tie.Need-same-length
-same-length c = search needs
-
 returns : tie.Need-returns
 returns c =
     let e = c .before .before .before .expand-list in
@@ -25,4 +13,4 @@ returns c =
 
 pub expand-spec : {M : Type 1} → statement M
 expand-spec =
-    tie.close (tie.spec settings-of-requires expand-list-requires answer-of-requires same-length returns)
+    tie.close (tie.spec (λ c κs. search needs) (λ c κs. search needs) (λ c κs. search needs) (λ c. search needs) returns)

@@ -7,15 +7,6 @@ use Rattle.face_values.specs.Values.{settingsOf, testSliceOf}
 use Rattle.face_words.proofs.window_seed.Statement.{statement}
 use Rattle.face_words.proofs.window_seed.Tie as tie
 
-settings-of-requires : tie.Need-settings-of-requires
-settings-of-requires c κs = search needs
-
-window-seed-requires : tie.Need-window-seed-requires
-window-seed-requires c κs = search needs
-
-seed-answer-of-requires : tie.Need-seed-answer-of-requires
-seed-answer-of-requires c κs = search needs
-
 returns : tie.Need-returns
 returns c =
     let a = c .before .before .before .before .before .before .args in
@@ -23,4 +14,4 @@ returns c =
     (c .seed-answer-of .ensures ∙ ap seedAnswerOf (rw (g .ensures) at (c .before .window-seed .ensures .0)), window-means (settingsOf (a .settings)) (a .masks .now) (testSliceOf (a .stop-specified) (a .stop-bits)) (a .specified .now) (a .bits .now))
 
 pub window-seed-spec : {M : Type 1} → statement M
-window-seed-spec = tie.close (tie.spec settings-of-requires window-seed-requires seed-answer-of-requires returns)
+window-seed-spec = tie.close (tie.spec (λ c κs. search needs) (λ c κs. search needs) (λ c κs. search needs) returns)

@@ -5,17 +5,11 @@ use borrow.Author.Needs.{needs}
 use Rattle.machine_chains.proofs.bad_chains.Statement.{statement}
 use Rattle.machine_chains.proofs.bad_chains.Tie as tie
 
-bad-count-requires : tie.Need-bad-count-requires
-bad-count-requires c κs = search needs
-
 returns : tie.Need-returns
 returns c = sym (chains-count _ _ (sym (c .before .bad-count .ensures) ∙ c .if1 .taken))
-
-some-bad-mask-requires : tie.Need-some-bad-mask-requires
-some-bad-mask-requires c κs = search needs
 
 returns-2 : tie.Need-returns-2
 returns-2 c = c .some-bad-mask .ensures ∙ sym (chains-masks _ _ (sym (c .before .before .bad-count .ensures) ∙ c .before .if1 .left))
 
 pub bad-chains-spec : {M : Type 1} → statement M
-bad-chains-spec = tie.close (tie.spec bad-count-requires returns some-bad-mask-requires returns-2)
+bad-chains-spec = tie.close (tie.spec (λ c κs. search needs) returns (λ c κs. search needs) returns-2)

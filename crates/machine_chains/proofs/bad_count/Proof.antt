@@ -6,12 +6,9 @@ use borrow.Author.Needs.{needs}
 use Rattle.machine_chains.proofs.bad_count.Statement.{statement}
 use Rattle.machine_chains.proofs.bad_count.Tie as tie
 
-within-requires : tie.Need-within-requires
-within-requires c κs = search needs
-
 returns : tie.Need-returns
 unfolding badCount
 returns c = ap not (c .within .ensures)
 
 pub bad-count-spec : {M : Type 1} → statement M
-bad-count-spec = tie.close (tie.spec within-requires returns)
+bad-count-spec = tie.close (tie.spec (λ c κs. search needs) returns)

@@ -9,12 +9,9 @@ returns : tie.Need-returns
 unfolding badMask
 returns c = rw (eq-eqb (c .before .args .mask) 0 (c .if1 .taken))
 
-beyond-requires : tie.Need-beyond-requires
-beyond-requires c κs = search needs
-
 returns-2 : tie.Need-returns-2
 unfolding badMask
 returns-2 c = rw (ne-eqb (c .before .before .args .mask) 0 (c .before .if1 .left)) (c .beyond .ensures)
 
 pub bad-mask-spec : {M : Type 1} → statement M
-bad-mask-spec = tie.close (tie.spec returns beyond-requires returns-2)
+bad-mask-spec = tie.close (tie.spec returns (λ c κs. search needs) returns-2)

@@ -16,16 +16,10 @@ Inv-loop masks state left₀ bits₀ left bits = (left ≤ min 64 (length masks)
 abbrev μ-loop : tie.MeasureT-loop
 μ-loop masks state left₀ bits₀ left bits = left
 
-lesser-requires : tie.Need-lesser-requires Inv-loop μ-loop
-lesser-requires c κs = search needs
-
 loop-holds : tie.Need-loop-holds Inv-loop μ-loop
 loop-holds c =
     let a = c .before .before .args in
     (omega (arith, c .lesser .ensures), slice-start (a .masks .now) (a .state) (c .lesser .result) (c .lesser .ensures))
-
-sub-left : tie.Need-sub-left Inv-loop μ-loop
-sub-left c = search needs
 
 mul-bits : tie.Need-mul-bits Inv-loop μ-loop
 mul-bits c =
@@ -38,17 +32,11 @@ mul-odd c = omega arith
 shared-slice-read-odd : tie.Need-shared-slice-read-odd Inv-loop μ-loop
 shared-slice-read-odd c = omega arith
 
-odd-requires : tie.Need-odd-requires Inv-loop μ-loop
-odd-requires c κs = search needs
-
 add-bits : tie.Need-add-bits Inv-loop μ-loop
 add-bits c =
     let l = c .before .before .before .loop in
     let a = c .before .before .before .before .before .before .args in
     omega (arith, l .inv .1, c .odd .ensures, slice-room (a .masks .now) (a .state) (l .left) (search needs), odd-lt (a .state) (getD (a .masks .now) (l .left - 1) 0))
-
-loop-less : tie.Need-loop-less Inv-loop μ-loop
-loop-less c = search needs
 
 loop-again : tie.Need-loop-again Inv-loop μ-loop
 loop-again c =
@@ -68,14 +56,14 @@ slice-spec =
     (tie.spec
     Inv-loop
     μ-loop
-    lesser-requires
+    (λ c κs. search needs)
     loop-holds
-    sub-left
+    (λ c. search needs)
     mul-bits
     mul-odd
     shared-slice-read-odd
-    odd-requires
+    (λ c κs. search needs)
     add-bits
-    loop-less
+    (λ c. search needs)
     loop-again
     returns)

@@ -19,25 +19,10 @@ abbrev μ-loop : tie.MeasureT-loop
 loop-holds : tie.Need-loop-holds Inv-loop μ-loop
 loop-holds c = (omega arith, refl)
 
-mul-bad-mask : tie.Need-mul-bad-mask Inv-loop μ-loop
-mul-bad-mask c = search needs
-
-shared-slice-read-bad-mask : tie.Need-shared-slice-read-bad-mask Inv-loop μ-loop
-shared-slice-read-bad-mask c = search needs
-
-bad-mask-requires : tie.Need-bad-mask-requires Inv-loop μ-loop
-bad-mask-requires c κs = search needs
-
 returns : tie.Need-returns Inv-loop μ-loop
 returns c =
     let l = c .before .before .before .before .loop in
     sym (l .inv .1 ∙ any-hit _ _ 0 (l .i) (search needs) (sym (c .before .bad-mask .ensures) ∙ c .if1 .taken))
-
-add-i : tie.Need-add-i Inv-loop μ-loop
-add-i c = search needs
-
-loop-less : tie.Need-loop-less Inv-loop μ-loop
-loop-less c = search needs
 
 loop-again : tie.Need-loop-again Inv-loop μ-loop
 loop-again c =
@@ -56,11 +41,11 @@ some-bad-mask-spec =
     Inv-loop
     μ-loop
     loop-holds
-    mul-bad-mask
-    shared-slice-read-bad-mask
-    bad-mask-requires
+    (λ c. search needs)
+    (λ c. search needs)
+    (λ c κs. search needs)
     returns
-    add-i
-    loop-less
+    (λ c. search needs)
+    (λ c. search needs)
     loop-again
     returns-2)

@@ -9,14 +9,8 @@ use borrow.Author.Needs.{needs}
 use Rattle.machine_register.proofs.bad_register.Statement.{statement}
 use Rattle.machine_register.proofs.bad_register.Tie as tie
 
-within-requires : tie.Need-within-requires
-within-requires c κs = search needs
-
 returns : tie.Need-returns
 returns c = sym (register-range _ _ (sym (c .before .within .ensures) ∙ not-true _ (c .if1 .taken)))
-
-beyond-requires : tie.Need-beyond-requires
-beyond-requires c κs = search needs
 
 returns-2 : tie.Need-returns-2
 returns-2 c =
@@ -24,9 +18,6 @@ returns-2 c =
 
 sub-digit : tie.Need-sub-digit
 sub-digit c = within-yes 1 64 _ (sym (c .before .before .before .within .ensures) ∙ not-false _ (c .before .before .if1 .left)) .0
-
-digit-requires : tie.Need-digit-requires
-digit-requires c κs = search needs
 
 returns-3 : tie.Need-returns-3
 returns-3 c =
@@ -38,4 +29,4 @@ returns-3 c =
 pub bad-register-spec : {M : Type 1} → statement M
 bad-register-spec =
     tie.close
-    (tie.spec within-requires returns beyond-requires returns-2 sub-digit digit-requires returns-3)
+    (tie.spec (λ c κs. search needs) returns (λ c κs. search needs) returns-2 sub-digit (λ c κs. search needs) returns-3)

@@ -8,14 +8,8 @@ use Rattle.machine_slices.proofs.bad_slice.Tie as tie
 returns : tie.Need-returns
 returns c = sym (slice-unspecified _ (c .before .before .before .args .test) (c .if1 .taken))
 
-beyond-requires : tie.Need-beyond-requires
-beyond-requires c κs = search needs
-
 returns-2 : tie.Need-returns-2
 returns-2 c = sym (slice-beyond _ (c .before .before .before .before .before .args .test) (c .before .before .if1 .left) (sym (c .before .beyond .ensures) ∙ c .if2 .taken))
-
-beyond-requires-2 : tie.Need-beyond-requires-2
-beyond-requires-2 c κs = search needs
 
 returns-3 : tie.Need-returns-3
 returns-3 c =
@@ -23,4 +17,4 @@ returns-3 c =
     c .beyond2 .ensures ∙ sym (slice-last _ test (c .before .before .before .if1 .left) (sym (c .before .before .beyond .ensures) ∙ c .before .if2 .left))
 
 pub bad-slice-spec : {M : Type 1} → statement M
-bad-slice-spec = tie.close (tie.spec returns beyond-requires returns-2 beyond-requires-2 returns-3)
+bad-slice-spec = tie.close (tie.spec returns (λ c κs. search needs) returns-2 (λ c κs. search needs) returns-3)

@@ -4,12 +4,9 @@ use borrow.Author.Needs.{needs}
 use Rattle.machine_slices.proofs.shows.Statement.{statement}
 use Rattle.machine_slices.proofs.shows.Tie as tie
 
-agrees-requires : tie.Need-agrees-requires
-agrees-requires c κs = search needs
-
 returns : tie.Need-returns
 unfolding shows
 returns c = c .agrees .ensures
 
 pub shows-spec : {M : Type 1} → statement M
-shows-spec = tie.close (tie.spec agrees-requires returns)
+shows-spec = tie.close (tie.spec (λ c κs. search needs) returns)

@@ -4,38 +4,9 @@ use borrow.Author.Needs.{needs}
 use Rattle.refusal_checks.proofs.check_cubes.Statement.{statement}
 use Rattle.refusal_checks.proofs.check_cubes.Tie as tie
 
-bad-register-requires : tie.Need-bad-register-requires
-bad-register-requires c κs = search needs
-
-bad-chains-requires : tie.Need-bad-chains-requires
-bad-chains-requires c κs = search needs
-
-bad-cubes-requires : tie.Need-bad-cubes-requires
-bad-cubes-requires c κs = search needs
-
-bad-lengths-requires : tie.Need-bad-lengths-requires
-bad-lengths-requires c κs = search needs
-
-bad-slices-requires : tie.Need-bad-slices-requires
-bad-slices-requires c κs = search needs
-
-judge-requires : tie.Need-judge-requires
-judge-requires c κs = search needs
-
 returns : tie.Need-returns
 unfolding cubesFaults
-returns c =
-    rw (← (c .before .bad-slices .ensures), ← (c .before .before .before .bad-cubes .ensures), ← (c .before .before .bad-lengths .ensures), ← (c .before .before .before .before .bad-chains .ensures), ← (c .before .before .before .before .before .bad-register .ensures))
-    (c .judge .ensures)
+returns c = rw (← (c .before .bad-slices .ensures), ← (c .before .before .bad-cubes .ensures)) (c .check-call .ensures)
 
 pub check-cubes-spec : {M : Type 1} → statement M
-check-cubes-spec =
-    tie.close
-    (tie.spec
-    bad-register-requires
-    bad-chains-requires
-    bad-cubes-requires
-    bad-lengths-requires
-    bad-slices-requires
-    judge-requires
-    returns)
+check-cubes-spec = tie.close (tie.spec (λ c κs. search needs) (λ c κs. search needs) (λ c κs. search needs) returns)

@@ -4,16 +4,9 @@ use borrow.Author.Needs.{needs}
 use Rattle.refusal_checks.proofs.check_set.Statement.{statement}
 use Rattle.refusal_checks.proofs.check_set.Tie as tie
 
-bad-set-requires : tie.Need-bad-set-requires
-bad-set-requires c κs = search needs
-
-check-stopped-requires : tie.Need-check-stopped-requires
-check-stopped-requires c κs = search needs
-
 returns : tie.Need-returns
 unfolding setFaults
-returns c =
-    rw (← (c .before .bad-set .ensures)) (c .check-stopped .ensures)
+returns c = rw (← (c .before .bad-stop .ensures), ← (c .before .before .bad-slices .ensures), ← (c .before .before .before .bad-set .ensures)) (c .check-call .ensures)
 
 pub check-set-spec : {M : Type 1} → statement M
-check-set-spec = tie.close (tie.spec bad-set-requires check-stopped-requires returns)
+check-set-spec = tie.close (tie.spec (λ c κs. search needs) (λ c κs. search needs) (λ c κs. search needs) (λ c κs. search needs) returns)

@@ -7,14 +7,8 @@ use borrow.Author.Needs.{needs}
 use Rattle.refusal_lengths.proofs.bad_cubes.Statement.{statement}
 use Rattle.refusal_lengths.proofs.bad_cubes.Tie as tie
 
-within-requires : tie.Need-within-requires
-within-requires c κs = search needs
-
 returns : tie.Need-returns
 returns c = sym (cubes-depth _ _ (sym (c .before .within .ensures) ∙ not-true _ (c .if1 .taken)))
-
-bad-set-requires : tie.Need-bad-set-requires
-bad-set-requires c κs = search needs
 
 returns-2 : tie.Need-returns-2
 returns-2 c =
@@ -29,4 +23,4 @@ returns-3 c =
 
 pub bad-cubes-spec : {M : Type 1} → statement M
 bad-cubes-spec =
-    tie.close (tie.spec within-requires returns bad-set-requires returns-2 rem-result returns-3)
+    tie.close (tie.spec (λ c κs. search needs) returns (λ c κs. search needs) returns-2 rem-result returns-3)

@@ -6,12 +6,9 @@ use borrow.Author.Needs.{needs}
 use Rattle.refusal_lengths.proofs.bad_limit.Statement.{statement}
 use Rattle.refusal_lengths.proofs.bad_limit.Tie as tie
 
-within-requires : tie.Need-within-requires
-within-requires c κs = search needs
-
 returns : tie.Need-returns
 unfolding badLimit
 returns c = ap not (c .within .ensures)
 
 pub bad-limit-spec : {M : Type 1} → statement M
-bad-limit-spec = tie.close (tie.spec within-requires returns)
+bad-limit-spec = tie.close (tie.spec (λ c κs. search needs) returns)

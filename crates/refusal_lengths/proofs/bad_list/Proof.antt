@@ -5,9 +5,6 @@ use borrow.Author.Needs.{needs}
 use Rattle.refusal_lengths.proofs.bad_list.Statement.{statement}
 use Rattle.refusal_lengths.proofs.bad_list.Tie as tie
 
-bad-set-requires : tie.Need-bad-set-requires
-bad-set-requires c κs = search needs
-
 returns : tie.Need-returns
 returns c = sym (list-slices _ _ (sym (c .before .bad-set .ensures) ∙ c .if1 .taken))
 
@@ -15,4 +12,4 @@ returns-2 : tie.Need-returns-2
 returns-2 c = sym (list-seeds _ _ (sym (c .before .bad-set .ensures) ∙ c .if1 .left))
 
 pub bad-list-spec : {M : Type 1} → statement M
-bad-list-spec = tie.close (tie.spec bad-set-requires returns returns-2)
+bad-list-spec = tie.close (tie.spec (λ c κs. search needs) returns returns-2)

@@ -6,12 +6,9 @@ use borrow.Author.Needs.{needs}
 use Rattle.refusal_lengths.proofs.bad_set.Statement.{statement}
 use Rattle.refusal_lengths.proofs.bad_set.Tie as tie
 
-within-requires : tie.Need-within-requires
-within-requires c κs = search needs
-
 returns : tie.Need-returns
 unfolding badSet
 returns c = ap not (c .within .ensures)
 
 pub bad-set-spec : {M : Type 1} → statement M
-bad-set-spec = tie.close (tie.spec within-requires returns)
+bad-set-spec = tie.close (tie.spec (λ c κs. search needs) returns)

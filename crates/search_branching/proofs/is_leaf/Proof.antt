@@ -6,12 +6,6 @@ use borrow.Author.Needs.{needs}
 use Rattle.search_branching.proofs.is_leaf.Statement.{statement}
 use Rattle.search_branching.proofs.is_leaf.Tie as tie
 
-within-requires : tie.Need-within-requires
-within-requires c κs = search needs
-
-within-requires-2 : tie.Need-within-requires-2
-within-requires-2 c κs = search needs
-
 returns : tie.Need-returns
 returns c =
     λ e.
@@ -24,4 +18,4 @@ returns-2 : tie.Need-returns-2
 returns-2 c = λ e. absurd (clash false e refl)
 
 pub is-leaf-spec : {M : Type 1} → statement M
-is-leaf-spec = tie.close (tie.spec within-requires within-requires-2 returns returns-2)
+is-leaf-spec = tie.close (tie.spec (λ c κs. search needs) (λ c κs. search needs) returns returns-2)

@@ -15,9 +15,6 @@ Inv-loop words columns count group width dead₀ row₀ dead row = (row ≤ coun
 abbrev μ-loop : tie.MeasureT-loop
 μ-loop words columns count group width dead₀ row₀ dead row = count - row
 
-mul-width : tie.Need-mul-width Inv-loop μ-loop
-mul-width c = search needs
-
 loop-holds : tie.Need-loop-holds Inv-loop μ-loop
 loop-holds c = let a = c .before .args in (omega arith, kills-none (a .words .now) (a .columns) (a .group))
 
@@ -38,12 +35,6 @@ returns c =
     let l = c .before .before .before .loop in
     kills-fewer (a .words .now) (a .columns) (a .group) (l .row + 1) (a .count) _ (omega arith) (kills-row (a .words .now) (a .columns) (a .group) (l .row) (l .dead) (c .before .showing .result) (l .inv .1) (c .before .showing .ensures))
 
-add-row : tie.Need-add-row Inv-loop μ-loop
-add-row c = search needs
-
-loop-less : tie.Need-loop-less Inv-loop μ-loop
-loop-less c = search needs
-
 loop-again : tie.Need-loop-again Inv-loop μ-loop
 loop-again c =
     let a = c .before .before .before .before .before .args in
@@ -62,12 +53,12 @@ dead-lanes-spec =
     (tie.spec
     Inv-loop
     μ-loop
-    mul-width
+    (λ c. search needs)
     loop-holds
     mul-showing
     showing-requires
     returns
-    add-row
-    loop-less
+    (λ c. search needs)
+    (λ c. search needs)
     loop-again
     returns-2)

@@ -5,24 +5,6 @@ use borrow.Author.Needs.{needs}
 use Rattle.search_excluding.proofs.lanes_of.Statement.{statement}
 use Rattle.search_excluding.proofs.lanes_of.Tie as tie
 
-mul-low : tie.Need-mul-low
-mul-low c = search needs
-
-shared-slice-read-low : tie.Need-shared-slice-read-low
-shared-slice-read-low c = search needs
-
-add-high : tie.Need-add-high
-add-high c = search needs
-
-mul-high : tie.Need-mul-high
-mul-high c = search needs
-
-shared-slice-read-high : tie.Need-shared-slice-read-high
-shared-slice-read-high c = search needs
-
-shr-if1 : tie.Need-shr-if1
-shr-if1 c = search needs
-
 returns : tie.Need-returns
 returns c = let a = c .before .before .before .args in lanes-yes (a .words .now) (a .place) (a .group) _ (c .if1 .taken) refl
 
@@ -33,11 +15,11 @@ pub lanes-of-spec : {M : Type 1} → statement M
 lanes-of-spec =
     tie.close
     (tie.spec
-    mul-low
-    shared-slice-read-low
-    add-high
-    mul-high
-    shared-slice-read-high
-    shr-if1
+    (λ c. search needs)
+    (λ c. search needs)
+    (λ c. search needs)
+    (λ c. search needs)
+    (λ c. search needs)
+    (λ c. search needs)
     returns
     returns-2)

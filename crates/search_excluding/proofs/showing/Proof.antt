@@ -15,15 +15,6 @@ Inv-loop words first columns group two lanes₀ column₀ place₀ lanes column 
 abbrev μ-loop : tie.MeasureT-loop
 μ-loop words first columns group two lanes₀ column₀ place₀ lanes column place = columns - column
 
-lanes-of-requires : tie.Need-lanes-of-requires Inv-loop μ-loop
-lanes-of-requires c κs = search needs
-
-add-lanes-of : tie.Need-add-lanes-of Inv-loop μ-loop
-add-lanes-of c = search needs
-
-lanes-of-requires-2 : tie.Need-lanes-of-requires-2 Inv-loop μ-loop
-lanes-of-requires-2 c κs = search needs
-
 returns : tie.Need-returns Inv-loop μ-loop
 returns c =
     let s = c .before .before .before .before in
@@ -32,15 +23,6 @@ returns c =
     let y = c .before .lanes-of2 in
     let two = showing-start (a .words .now) (a .first) (a .columns) (a .group) (x .result) (y .result) (s .pre .0) (x .ensures) (y .ensures) in
     λ i h e j l. two .match i h e j (omega (arith, c .if1 .taken))
-
-add-lanes-of-2 : tie.Need-add-lanes-of-2 Inv-loop μ-loop
-add-lanes-of-2 c = search needs
-
-lanes-of-requires-3 : tie.Need-lanes-of-requires-3 Inv-loop μ-loop
-lanes-of-requires-3 c κs = search needs
-
-add-place : tie.Need-add-place Inv-loop μ-loop
-add-place c = search needs
 
 loop-holds : tie.Need-loop-holds Inv-loop μ-loop
 loop-holds c =
@@ -55,18 +37,6 @@ loop-holds c =
 
 returns-2 : tie.Need-returns-2 Inv-loop μ-loop
 returns-2 c = λ i h e. absurd (omega (arith, digit-none i))
-
-lanes-of-requires-4 : tie.Need-lanes-of-requires-4 Inv-loop μ-loop
-lanes-of-requires-4 c κs = search needs
-
-add-column : tie.Need-add-column Inv-loop μ-loop
-add-column c = search needs
-
-add-place-2 : tie.Need-add-place-2 Inv-loop μ-loop
-add-place-2 c = search needs
-
-loop-less : tie.Need-loop-less Inv-loop μ-loop
-loop-less c = search needs
 
 loop-again : tie.Need-loop-again Inv-loop μ-loop
 loop-again c =
@@ -83,18 +53,18 @@ showing-spec =
     (tie.spec
     Inv-loop
     μ-loop
-    lanes-of-requires
-    add-lanes-of
-    lanes-of-requires-2
+    (λ c κs. search needs)
+    (λ c. search needs)
+    (λ c κs. search needs)
     returns
-    add-lanes-of-2
-    lanes-of-requires-3
-    add-place
+    (λ c. search needs)
+    (λ c κs. search needs)
+    (λ c. search needs)
     loop-holds
     returns-2
-    lanes-of-requires-4
-    add-column
-    add-place-2
-    loop-less
+    (λ c κs. search needs)
+    (λ c. search needs)
+    (λ c. search needs)
+    (λ c. search needs)
     loop-again
     returns-3)

@@ -10,24 +10,6 @@ use Rattle.search_filling.proofs.column_of.Tie as tie
 slice-aggregate-reading : tie.Need-slice-aggregate-reading
 slice-aggregate-reading c = let v = c .before .before .args .vectors .now in sym (length-take-le 6 v (omega arith))
 
-reading-requires : tie.Need-reading-requires
-reading-requires c κs = search needs
-
-mul-reading : tie.Need-mul-reading
-mul-reading c = search needs
-
-sub-reading : tie.Need-sub-reading
-sub-reading c = search needs
-
-part-reading-start : tie.Need-part-reading-start
-part-reading-start c = search needs
-
-part-reading-end : tie.Need-part-reading-end
-part-reading-end c = search needs
-
-reading-requires-2 : tie.Need-reading-requires-2
-reading-requires-2 c κs = search needs
-
 returns : tie.Need-returns
 returns c =
     let s = c .before .before .before .before .before .before in
@@ -45,11 +27,11 @@ column-of-spec =
     tie.close
     (tie.spec
     slice-aggregate-reading
-    reading-requires
-    mul-reading
-    sub-reading
-    part-reading-start
-    part-reading-end
-    reading-requires-2
+    (λ c κs. search needs)
+    (λ c. search needs)
+    (λ c. search needs)
+    (λ c. search needs)
+    (λ c. search needs)
+    (λ c κs. search needs)
     returns
     returns-2)

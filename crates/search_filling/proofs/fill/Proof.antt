@@ -17,12 +17,6 @@ Inv-loop pattern table rows lowest vectors free words₀ columns width most coun
 abbrev μ-loop : tie.MeasureT-loop
 μ-loop pattern table rows lowest vectors free words₀ columns width most count₀ row₀ words count row = rows - row
 
-mul-width : tie.Need-mul-width Inv-loop μ-loop
-mul-width c = search needs
-
-words-for-requires : tie.Need-words-for-requires Inv-loop μ-loop
-words-for-requires c κs = search needs
-
 loop-holds : tie.Need-loop-holds Inv-loop μ-loop
 loop-holds c =
     let s = c .before .before .before .before in
@@ -51,15 +45,6 @@ fill-row-requires c κs =
     let s = c .before .before .before .before .before .before .before .before in
     let l = c .before .before .before .loop in
     (s .pre .0, (row-fits (l .row) (s .args .rows) (s .args .pattern .columns) (length (s .args .table .now)) (omega arith) (s .pre .1 .0), omega (arith, l .inv .2)))
-
-add-count : tie.Need-add-count Inv-loop μ-loop
-add-count c = search needs
-
-add-row : tie.Need-add-row Inv-loop μ-loop
-add-row c = search needs
-
-loop-less : tie.Need-loop-less Inv-loop μ-loop
-loop-less c = search needs
 
 loop-again : tie.Need-loop-again Inv-loop μ-loop
 loop-again c =
@@ -90,17 +75,17 @@ fill-spec =
     (tie.spec
     Inv-loop
     μ-loop
-    mul-width
-    words-for-requires
+    (λ c. search needs)
+    (λ c κs. search needs)
     loop-holds
     mul-first
     add-if1
     same-length
     returns
     fill-row-requires
-    add-count
-    add-row
-    loop-less
+    (λ c. search needs)
+    (λ c. search needs)
+    (λ c. search needs)
     loop-again
     same-length-2
     returns-2)

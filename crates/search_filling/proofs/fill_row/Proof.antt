@@ -17,20 +17,8 @@ Inv-loop table row lowest vectors free words₀ first columns start bits₀ colu
 abbrev μ-loop : tie.MeasureT-loop
 μ-loop table row lowest vectors free words₀ first columns start bits₀ column₀ place₀ words bits column place = columns - column
 
-mul-start : tie.Need-mul-start Inv-loop μ-loop
-mul-start c = search needs
-
 loop-holds : tie.Need-loop-holds Inv-loop μ-loop
 loop-holds c = let a = c .before .before .before .args in filling-start (a .pattern) (a .table .now) (a .row) (a .lowest) (take (a .free) (a .vectors .now)) (a .words .now) (a .first)
-
-add-column-of : tie.Need-add-column-of Inv-loop μ-loop
-add-column-of c = search needs
-
-mul-column-of : tie.Need-mul-column-of Inv-loop μ-loop
-mul-column-of c = search needs
-
-shared-slice-read-column-of : tie.Need-shared-slice-read-column-of Inv-loop μ-loop
-shared-slice-read-column-of c = search needs
 
 column-of-requires : tie.Need-column-of-requires Inv-loop μ-loop
 column-of-requires c κs =
@@ -52,9 +40,6 @@ add-words c =
     let i = c .before .before .before .loop .inv in
     search needs
 
-mul-words-2 : tie.Need-mul-words-2 Inv-loop μ-loop
-mul-words-2 c = search needs
-
 slice-write-words-2 : tie.Need-slice-write-words-2 Inv-loop μ-loop
 slice-write-words-2 c =
     let s = c .before .before .before .before .before .before .before in
@@ -73,15 +58,6 @@ returns c =
           ∙ l .inv .same i h,
       λ e. absurd (clash false e refl),
     )
-
-add-column : tie.Need-add-column Inv-loop μ-loop
-add-column c = search needs
-
-add-place : tie.Need-add-place Inv-loop μ-loop
-add-place c = search needs
-
-loop-less : tie.Need-loop-less Inv-loop μ-loop
-loop-less c = search needs
 
 loop-again : tie.Need-loop-again Inv-loop μ-loop
 loop-again c =
@@ -107,22 +83,22 @@ fill-row-spec =
     (tie.spec
     Inv-loop
     μ-loop
-    mul-start
+    (λ c. search needs)
     loop-holds
-    add-column-of
-    mul-column-of
-    shared-slice-read-column-of
+    (λ c. search needs)
+    (λ c. search needs)
+    (λ c. search needs)
     column-of-requires
     mul-words
     slice-write-words
     add-words
-    mul-words-2
+    (λ c. search needs)
     slice-write-words-2
     same-length
     returns
-    add-column
-    add-place
-    loop-less
+    (λ c. search needs)
+    (λ c. search needs)
+    (λ c. search needs)
     loop-again
     same-length-2
     returns-2)

@@ -5,39 +5,15 @@ use Rattle.search_forcing.proofs.Entering.{take-rest, entered}
 use Rattle.search_forcing.proofs.force_row.Statement.{statement}
 use Rattle.search_forcing.proofs.force_row.Tie as tie
 
-across-requires : tie.Need-across-requires
-across-requires c κs = search needs
-
-enum-told : tie.Need-enum-told
-enum-told c = search needs
-
-enum-known-shows : tie.Need-enum-known-shows
-enum-known-shows c = search needs
-
-restrict-requires : tie.Need-restrict-requires
-restrict-requires c κs = search needs
-
-enum-told-2 : tie.Need-enum-told-2
-enum-told-2 c = search needs
-
-same-length : tie.Need-same-length
-same-length c = search needs
-
 returns : tie.Need-returns
 returns c =
     let a = c .before .before .before .before .before .before .args in
     entered (a .space) (a .vectors .now) (a .pattern) (a .table .now) (a .row) (c .before .before .across .result) _ (c .before .before .across .ensures) (c .enum-told .given .1) _ _ refl (take-rest (a .space .free) (a .vectors .now))
 
-same-length-2 : tie.Need-same-length-2
-same-length-2 c = search needs
-
 returns-2 : tie.Need-returns-2
 returns-2 c =
     let a = c .before .before .before .before .before .before .before .before .before .before .before .args in
     entered (a .space) (a .vectors .now) (a .pattern) (a .table .now) (a .row) (c .before .before .before .before .before .before .before .across .result) _ (c .before .before .before .before .before .before .before .across .ensures) (c .before .before .before .before .before .shows .given .1) _ _ (c .before .before .restrict .ensures .0) (c .before .before .restrict .ensures .1)
-
-same-length-3 : tie.Need-same-length-3
-same-length-3 c = search needs
 
 returns-3 : tie.Need-returns-3
 returns-3 c =
@@ -48,14 +24,14 @@ pub force-row-spec : {M : Type 1} → statement M
 force-row-spec =
     tie.close
     (tie.spec
-    across-requires
-    enum-told
-    enum-known-shows
-    restrict-requires
-    enum-told-2
-    same-length
+    (λ c κs. search needs)
+    (λ c. search needs)
+    (λ c. search needs)
+    (λ c κs. search needs)
+    (λ c. search needs)
+    (λ c. search needs)
     returns
-    same-length-2
+    (λ c. search needs)
     returns-2
-    same-length-3
+    (λ c. search needs)
     returns-3)

@@ -5,9 +5,6 @@ use borrow.Author.Needs.{needs}
 use Rattle.search_found.proofs.lower_of.Statement.{statement}
 use Rattle.search_found.proofs.lower_of.Tie as tie
 
-reached-requires : tie.Need-reached-requires
-reached-requires c κs = search needs
-
 returns : tie.Need-returns
 returns c =
     let a = c .before .before .args in
@@ -19,4 +16,4 @@ returns-2 c =
     sym (lower-not (a .before) (a .state) (sym (c .before .reached .ensures) ∙ c .if1 .left))
 
 pub lower-of-spec : {M : Type 1} → statement M
-lower-of-spec = tie.close (tie.spec reached-requires returns returns-2)
+lower-of-spec = tie.close (tie.spec (λ c κs. search needs) returns returns-2)

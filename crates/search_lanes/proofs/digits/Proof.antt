@@ -4,14 +4,8 @@ use borrow.Author.Needs.{needs}
 use Rattle.search_lanes.proofs.digits.Statement.{statement}
 use Rattle.search_lanes.proofs.digits.Tie as tie
 
-mul-result : tie.Need-mul-result
-mul-result c = search needs
-
-array-read-result : tie.Need-array-read-result
-array-read-result c = search needs
-
 returns : tie.Need-returns
 returns c = table-digits (c .args .place) (search needs)
 
 pub digits-spec : {M : Type 1} → statement M
-digits-spec = tie.close (tie.spec mul-result array-read-result returns)
+digits-spec = tie.close (tie.spec (λ c. search needs) (λ c. search needs) returns)

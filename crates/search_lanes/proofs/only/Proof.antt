@@ -7,8 +7,5 @@ use Rattle.search_lanes.proofs.only.Tie as tie
 mul-result : tie.Need-mul-result
 mul-result c = record { fits = only-fits (c .args .word) (c .args .bit) (search needs) (search needs) }
 
-returns : tie.Need-returns
-returns c = search needs
-
 pub only-spec : {M : Type 1} → statement M
-only-spec = tie.close (tie.spec mul-result returns)
+only-spec = tie.close (tie.spec mul-result (λ c. search needs))

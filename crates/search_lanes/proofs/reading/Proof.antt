@@ -20,12 +20,6 @@ Inv-loop lowest vectors mask count word₀ place₀ word place = (place ≤ coun
 abbrev μ-loop : tie.MeasureT-loop
 μ-loop lowest vectors mask count word₀ place₀ word place = count - place
 
-lesser-requires : tie.Need-lesser-requires Inv-loop μ-loop
-lesser-requires c κs = search needs
-
-odd-requires : tie.Need-odd-requires Inv-loop μ-loop
-odd-requires c κs = search needs
-
 only-requires : tie.Need-only-requires Inv-loop μ-loop
 only-requires c κs = let a = c .before .before .before .args in omega (arith, odd-lt (a .lowest) (a .mask), c .odd .ensures)
 
@@ -34,28 +28,10 @@ loop-holds c =
     let a = c .before .before .before .before .args in
     (omega arith, search needs, lanes-start (a .lowest) (a .vectors .now) (a .mask) (c .only .result) (c .only .ensures ∙ ap (λ (n : ℕ). 18446744073709551615 * n) (c .before .odd .ensures)))
 
-digits-requires : tie.Need-digits-requires Inv-loop μ-loop
-digits-requires c κs = search needs
-
-mul-odd : tie.Need-mul-odd Inv-loop μ-loop
-mul-odd c = search needs
-
-shared-slice-read-odd : tie.Need-shared-slice-read-odd Inv-loop μ-loop
-shared-slice-read-odd c = search needs
-
-odd-requires-2 : tie.Need-odd-requires-2 Inv-loop μ-loop
-odd-requires-2 c κs = search needs
-
 only-requires-2 : tie.Need-only-requires-2 Inv-loop μ-loop
 only-requires-2 c κs =
     let a = c .before .before .before .before .before .before .before .before .before .args in
     omega (arith, odd-lt (getD (a .vectors .now) (c .before .before .before .before .loop .place) 0) (a .mask), c .odd2 .ensures)
-
-add-place : tie.Need-add-place Inv-loop μ-loop
-add-place c = search needs
-
-loop-less : tie.Need-loop-less Inv-loop μ-loop
-loop-less c = search needs
 
 loop-again : tie.Need-loop-again Inv-loop μ-loop
 loop-again c =
@@ -82,16 +58,16 @@ reading-spec =
     (tie.spec
     Inv-loop
     μ-loop
-    lesser-requires
-    odd-requires
+    (λ c κs. search needs)
+    (λ c κs. search needs)
     only-requires
     loop-holds
-    digits-requires
-    mul-odd
-    shared-slice-read-odd
-    odd-requires-2
+    (λ c κs. search needs)
+    (λ c. search needs)
+    (λ c. search needs)
+    (λ c κs. search needs)
     only-requires-2
-    add-place
-    loop-less
+    (λ c. search needs)
+    (λ c. search needs)
     loop-again
     returns)

@@ -17,12 +17,6 @@ Inv-loop pattern table rows lowest free vectors most count₀ found₀ count fou
 abbrev μ-loop : tie.MeasureT-loop
 μ-loop pattern table rows lowest free vectors most count₀ found₀ count found = most - count
 
-lesser-requires : tie.Need-lesser-requires Inv-loop μ-loop
-lesser-requires c κs = search needs
-
-lesser-requires-2 : tie.Need-lesser-requires-2 Inv-loop μ-loop
-lesser-requires-2 c κs = search needs
-
 branch-requires : tie.Need-branch-requires Inv-loop μ-loop
 branch-requires c κs =
     let s = c .before .before .before in
@@ -37,15 +31,6 @@ loop-holds c =
     let t : take n (take (a .free) (a .t5)) ≡ take n (a .t5) = take-take n (a .free) (a .t5) (omega arith) in
     (omega arith, c .branch .ensures ∙ rw t)
 
-add-loop : tie.Need-add-loop Inv-loop μ-loop
-add-loop c = search needs
-
-mul-branch : tie.Need-mul-branch Inv-loop μ-loop
-mul-branch c = search needs
-
-array-read-branch : tie.Need-array-read-branch Inv-loop μ-loop
-array-read-branch c = search needs
-
 branch-requires-2 : tie.Need-branch-requires-2 Inv-loop μ-loop
 branch-requires-2 c κs =
     let s = c .before .before .before .before .before .before in
@@ -56,12 +41,6 @@ branch-requires-2 c κs =
     let h : d < length (take (a .free) (a .t5)) = omega (arith, length-take (a .free) (a .t5)) in
     let q = block-rising (take (a .free) (a .t5)) d h (s .pre .0) in
     (rw (getD-take (a .free) (a .t5) d 0 m, take-take d (a .free) (a .t5) (omega arith)) at q, s .pre .1)
-
-add-count : tie.Need-add-count Inv-loop μ-loop
-add-count c = search needs
-
-loop-less : tie.Need-loop-less Inv-loop μ-loop
-loop-less c = search needs
 
 loop-again : tie.Need-loop-again Inv-loop μ-loop
 loop-again c =
@@ -89,15 +68,15 @@ rise-spec =
     (tie.spec
     Inv-loop
     μ-loop
-    lesser-requires
-    lesser-requires-2
+    (λ c κs. search needs)
+    (λ c κs. search needs)
     branch-requires
     loop-holds
-    add-loop
-    mul-branch
-    array-read-branch
+    (λ c. search needs)
+    (λ c. search needs)
+    (λ c. search needs)
     branch-requires-2
-    add-count
-    loop-less
+    (λ c. search needs)
+    (λ c. search needs)
     loop-again
     returns)

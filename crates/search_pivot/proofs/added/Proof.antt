@@ -8,9 +8,6 @@ use Rattle.search_pivot.proofs.Pivot.{added-even, added-odd}
 use Rattle.search_pivot.proofs.added.Statement.{statement}
 use Rattle.search_pivot.proofs.added.Tie as tie
 
-odd-requires : tie.Need-odd-requires
-odd-requires c κs = search needs
-
 returns : tie.Need-returns
 returns c =
     let a = c .before .before .args in
@@ -23,4 +20,4 @@ returns-2 c =
     sym (added-even (a .mask) (a .pivot) (a .vector) z)
 
 pub added-spec : {M : Type 1} → statement M
-added-spec = tie.close (tie.spec odd-requires returns returns-2)
+added-spec = tie.close (tie.spec (λ c κs. search needs) returns returns-2)

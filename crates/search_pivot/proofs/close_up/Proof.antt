@@ -17,41 +17,8 @@ Inv-loop vectors₀ free place mask pivot next₀ vectors next = (0 < next) × (
 abbrev μ-loop : tie.MeasureT-loop
 μ-loop vectors₀ free place mask pivot next₀ vectors next = free - next
 
-mul-pivot : tie.Need-mul-pivot Inv-loop μ-loop
-mul-pivot c = search needs
-
-slice-read-pivot : tie.Need-slice-read-pivot Inv-loop μ-loop
-slice-read-pivot c = search needs
-
-add-next : tie.Need-add-next Inv-loop μ-loop
-add-next c = search needs
-
 loop-holds : tie.Need-loop-holds Inv-loop μ-loop
 loop-holds c = (omega arith, omega arith, refl, refl)
-
-mul-added : tie.Need-mul-added Inv-loop μ-loop
-mul-added c = search needs
-
-slice-read-added : tie.Need-slice-read-added Inv-loop μ-loop
-slice-read-added c = search needs
-
-added-requires : tie.Need-added-requires Inv-loop μ-loop
-added-requires c κs = search needs
-
-sub-vectors : tie.Need-sub-vectors Inv-loop μ-loop
-sub-vectors c = search needs
-
-mul-vectors : tie.Need-mul-vectors Inv-loop μ-loop
-mul-vectors c = search needs
-
-slice-write-vectors : tie.Need-slice-write-vectors Inv-loop μ-loop
-slice-write-vectors c = search needs
-
-add-next-2 : tie.Need-add-next-2 Inv-loop μ-loop
-add-next-2 c = search needs
-
-loop-less : tie.Need-loop-less Inv-loop μ-loop
-loop-less c = search needs
 
 loop-again : tie.Need-loop-again Inv-loop μ-loop
 loop-again c =
@@ -63,9 +30,6 @@ loop-again c =
       length-set (l .vectors) (l .next - 1) _ ∙ l .inv .2,
       rw (c .added .ensures) (close-next g (a .free) (l .vectors) (l .next) (omega arith) (omega arith) (omega arith)) ∙ l .inv .3,
     )
-
-same-length : tie.Need-same-length Inv-loop μ-loop
-same-length c = search needs
 
 returns : tie.Need-returns Inv-loop μ-loop
 returns c =
@@ -82,18 +46,18 @@ close-up-spec =
     (tie.spec
     Inv-loop
     μ-loop
-    mul-pivot
-    slice-read-pivot
-    add-next
+    (λ c. search needs)
+    (λ c. search needs)
+    (λ c. search needs)
     loop-holds
-    mul-added
-    slice-read-added
-    added-requires
-    sub-vectors
-    mul-vectors
-    slice-write-vectors
-    add-next-2
-    loop-less
+    (λ c. search needs)
+    (λ c. search needs)
+    (λ c κs. search needs)
+    (λ c. search needs)
+    (λ c. search needs)
+    (λ c. search needs)
+    (λ c. search needs)
+    (λ c. search needs)
     loop-again
-    same-length
+    (λ c. search needs)
     returns)

@@ -19,26 +19,11 @@ abbrev μ-loop : tie.MeasureT-loop
 loop-holds : tie.Need-loop-holds Inv-loop μ-loop
 loop-holds c = odd-start (c .before .args .mask) (c .before .args .vectors .now) (c .before .args .free) (c .before .pre)
 
-mul-odd : tie.Need-mul-odd Inv-loop μ-loop
-mul-odd c = search needs
-
-shared-slice-read-odd : tie.Need-shared-slice-read-odd Inv-loop μ-loop
-shared-slice-read-odd c = search needs
-
-odd-requires : tie.Need-odd-requires Inv-loop μ-loop
-odd-requires c κs = search needs
-
 returns : tie.Need-returns Inv-loop μ-loop
 returns c =
     let s = c .before .before .before .before .before .before in
     let l = c .before .before .before .before .loop in
     odd-here (s .args .mask) (s .args .vectors .now) (s .args .free) (s .pre) (l .place) (l .inv) (omega arith) (sym (c .before .odd .ensures) ∙ c .if1 .taken)
-
-add-place : tie.Need-add-place Inv-loop μ-loop
-add-place c = search needs
-
-loop-less : tie.Need-loop-less Inv-loop μ-loop
-loop-less c = search needs
 
 loop-again : tie.Need-loop-again Inv-loop μ-loop
 loop-again c =
@@ -61,11 +46,11 @@ first-odd-spec =
     Inv-loop
     μ-loop
     loop-holds
-    mul-odd
-    shared-slice-read-odd
-    odd-requires
+    (λ c. search needs)
+    (λ c. search needs)
+    (λ c κs. search needs)
     returns
-    add-place
-    loop-less
+    (λ c. search needs)
+    (λ c. search needs)
     loop-again
     returns-2)

@@ -8,15 +8,6 @@ use Rattle.search_pivot.specs.declared.Taken.{Taken}
 use Rattle.search_pivot.proofs.take_out.Statement.{statement}
 use Rattle.search_pivot.proofs.take_out.Tie as tie
 
-lesser-requires : tie.Need-lesser-requires
-lesser-requires c κs = search needs
-
-first-odd-requires : tie.Need-first-odd-requires
-first-odd-requires c κs = search needs
-
-same-length : tie.Need-same-length
-same-length c = search needs
-
 returns : tie.Need-returns
 returns c =
     let a = c .before .before .before .before .before .args in
@@ -48,9 +39,6 @@ sub-t7 c =
     let i = s .before .first-odd in
     omega (arith, place-lt (a .mask) (a .vectors .now) (n .result) (i .result) (omega arith) (i .ensures) (s .if1 .left))
 
-same-length-2 : tie.Need-same-length-2
-same-length-2 c = search needs
-
 returns-2 : tie.Need-returns-2
 returns-2 c =
     let s = c .before .before .before .before .before in
@@ -66,13 +54,13 @@ pub take-out-spec : {M : Type 1} → statement M
 take-out-spec =
     tie.close
     (tie.spec
-    lesser-requires
-    first-odd-requires
-    same-length
+    (λ c κs. search needs)
+    (λ c κs. search needs)
+    (λ c. search needs)
     returns
     mul-pivot
     slice-read-pivot
     close-up-requires
     sub-t7
-    same-length-2
+    (λ c. search needs)
     returns-2)

@@ -5,9 +5,6 @@ use Rattle.search_restrict.proofs.Restricting.{restricted-with, restric
 use Rattle.search_restrict.proofs.restrict.Statement.{statement}
 use Rattle.search_restrict.proofs.restrict.Tie as tie
 
-odd-requires : tie.Need-odd-requires
-odd-requires c κs = search needs
-
 returns : tie.Need-returns
 returns c =
     let s = c .before .before .before .before in
@@ -24,27 +21,12 @@ returns-2 c =
       single-left (a .mask) (a .wanted) (a .vectors .now) (a .space) (c .before .if1 .taken),
     )
 
-take-out-requires : tie.Need-take-out-requires
-take-out-requires c κs = search needs
-
-shifted-requires : tie.Need-shifted-requires
-shifted-requires c κs = search needs
-
-odd-requires-2 : tie.Need-odd-requires-2
-odd-requires-2 c κs = search needs
-
-same-length : tie.Need-same-length
-same-length c = search needs
-
 returns-3 : tie.Need-returns-3
 returns-3 c =
     let a = c .before .before .before .before .before .before .before .before .before .args in
     let t = c .before .before .before .before .before .take-out in
     let x = c .before .before .shifted in
     (restricted-with (a .mask) (a .wanted) (take (a .space .free) (a .vectors .now)) (a .space) (t .result) (x .result) _ (t .ensures .0) (x .ensures) (rw (c .before .if3 .taken, c .odd2 .ensures)), t .ensures .1)
-
-same-length-2 : tie.Need-same-length-2
-same-length-2 c = search needs
 
 returns-4 : tie.Need-returns-4
 returns-4 c =
@@ -57,13 +39,13 @@ pub restrict-spec : {M : Type 1} → statement M
 restrict-spec =
     tie.close
     (tie.spec
-    odd-requires
+    (λ c κs. search needs)
     returns
     returns-2
-    take-out-requires
-    shifted-requires
-    odd-requires-2
-    same-length
+    (λ c κs. search needs)
+    (λ c κs. search needs)
+    (λ c κs. search needs)
+    (λ c. search needs)
     returns-3
-    same-length-2
+    (λ c. search needs)
     returns-4)

@@ -5,9 +5,6 @@ use Rattle.search_restrict.proofs.Restricting.{shifted-same, shifted-ot
 use Rattle.search_restrict.proofs.shifted.Statement.{statement}
 use Rattle.search_restrict.proofs.shifted.Tie as tie
 
-odd-requires : tie.Need-odd-requires
-odd-requires c κs = search needs
-
 returns : tie.Need-returns
 returns c =
     let a = c .before .before .args in
@@ -19,4 +16,4 @@ returns-2 c =
     sym (shifted-other (a .mask) (a .wanted) (a .lowest) (a .pivot) (λ e. c .if1 .left (c .before .odd .ensures ∙ e)))
 
 pub shifted-spec : {M : Type 1} → statement M
-shifted-spec = tie.close (tie.spec odd-requires returns returns-2)
+shifted-spec = tie.close (tie.spec (λ c κs. search needs) returns returns-2)

@@ -34,12 +34,6 @@ returns c =
     let l = c .before .before .before .loop in
     shown-first (a .pattern) (a .table .now) (a .rows) (a .state) (l .row) (l .inv .1) (omega arith) (sym (c .before .shown .ensures) ∙ c .if1 .taken)
 
-add-row : tie.Need-add-row Inv-loop μ-loop
-add-row c = search needs
-
-loop-less : tie.Need-loop-less Inv-loop μ-loop
-loop-less c = search needs
-
 loop-again : tie.Need-loop-again Inv-loop μ-loop
 loop-again c =
     let s = c .before .before .before .before .before in
@@ -63,7 +57,7 @@ first-shown-spec =
     loop-holds
     shown-requires
     returns
-    add-row
-    loop-less
+    (λ c. search needs)
+    (λ c. search needs)
     loop-again
     returns-2)

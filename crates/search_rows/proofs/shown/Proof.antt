@@ -15,23 +15,8 @@ Inv-loop table row state columns first bits₀ column₀ bits column = (column �
 abbrev μ-loop : tie.MeasureT-loop
 μ-loop table row state columns first bits₀ column₀ bits column = columns - column
 
-mul-first : tie.Need-mul-first Inv-loop μ-loop
-mul-first c = search needs
-
 loop-holds : tie.Need-loop-holds Inv-loop μ-loop
 loop-holds c = (omega arith, refl)
-
-add-odd : tie.Need-add-odd Inv-loop μ-loop
-add-odd c = search needs
-
-mul-odd : tie.Need-mul-odd Inv-loop μ-loop
-mul-odd c = search needs
-
-shared-slice-read-odd : tie.Need-shared-slice-read-odd Inv-loop μ-loop
-shared-slice-read-odd c = search needs
-
-odd-requires : tie.Need-odd-requires Inv-loop μ-loop
-odd-requires c κs = search needs
 
 returns : tie.Need-returns Inv-loop μ-loop
 unfolding shown
@@ -40,12 +25,6 @@ returns c =
     let a = s .args in
     let l = c .before .before .before .before .loop in
     reads-differs (a .pattern .columns) (a .table .now) (a .row) (s .pre) (a .state) (l .column) (l .bits) (omega arith) (λ e. c .if1 .taken (c .before .odd .ensures ∙ e)) ∙ sym (l .inv .1)
-
-add-column : tie.Need-add-column Inv-loop μ-loop
-add-column c = search needs
-
-loop-less : tie.Need-loop-less Inv-loop μ-loop
-loop-less c = search needs
 
 loop-again : tie.Need-loop-again Inv-loop μ-loop
 loop-again c =
@@ -68,14 +47,14 @@ shown-spec =
     (tie.spec
     Inv-loop
     μ-loop
-    mul-first
+    (λ c. search needs)
     loop-holds
-    add-odd
-    mul-odd
-    shared-slice-read-odd
-    odd-requires
+    (λ c. search needs)
+    (λ c. search needs)
+    (λ c. search needs)
+    (λ c κs. search needs)
     returns
-    add-column
-    loop-less
+    (λ c. search needs)
+    (λ c. search needs)
     loop-again
     returns-2)

@@ -17,29 +17,8 @@ Inv-loop table row lowest vectors free columns first bits₀ shows₀ place₀ b
 abbrev μ-loop : tie.MeasureT-loop
 μ-loop table row lowest vectors free columns first bits₀ shows₀ place₀ bits shows place = columns - place
 
-mul-first : tie.Need-mul-first Inv-loop μ-loop
-mul-first c = search needs
-
 loop-holds : tie.Need-loop-holds Inv-loop μ-loop
 loop-holds c = (omega arith, refl)
-
-add-column : tie.Need-add-column Inv-loop μ-loop
-add-column c = search needs
-
-mul-column : tie.Need-mul-column Inv-loop μ-loop
-mul-column c = search needs
-
-shared-slice-read-column : tie.Need-shared-slice-read-column Inv-loop μ-loop
-shared-slice-read-column c = search needs
-
-column-requires : tie.Need-column-requires Inv-loop μ-loop
-column-requires c κs = search needs
-
-together-requires : tie.Need-together-requires Inv-loop μ-loop
-together-requires c κs = search needs
-
-enum-told : tie.Need-enum-told Inv-loop μ-loop
-enum-told c = search needs
 
 returns : tie.Need-returns Inv-loop μ-loop
 returns c =
@@ -48,12 +27,6 @@ returns c =
     let l = c .before .before .before .before .before .before .loop in
     across-neither (a .pattern .columns) (a .table .now) (a .row) (s .pre) (a .lowest) (take (a .free) (a .vectors .now)) (l .place + 1) (l .bits / 2) (c .before .before .together .result)
     (across-next (a .pattern .columns) (a .table .now) (a .row) (s .pre) (a .lowest) (take (a .free) (a .vectors .now)) (l .place) (l .bits) (l .shows) (c .before .before .before .column .result) (c .before .before .together .result) (omega arith) (c .before .before .before .column .ensures) (c .before .before .together .ensures) (l .inv .1)) (c .enum-told .given .1)
-
-add-place : tie.Need-add-place Inv-loop μ-loop
-add-place c = search needs
-
-loop-less : tie.Need-loop-less Inv-loop μ-loop
-loop-less c = search needs
 
 loop-again : tie.Need-loop-again Inv-loop μ-loop
 loop-again c =
@@ -75,16 +48,16 @@ across-spec =
     (tie.spec
     Inv-loop
     μ-loop
-    mul-first
+    (λ c. search needs)
     loop-holds
-    add-column
-    mul-column
-    shared-slice-read-column
-    column-requires
-    together-requires
-    enum-told
+    (λ c. search needs)
+    (λ c. search needs)
+    (λ c. search needs)
+    (λ c κs. search needs)
+    (λ c κs. search needs)
+    (λ c. search needs)
     returns
-    add-place
-    loop-less
+    (λ c. search needs)
+    (λ c. search needs)
     loop-again
     returns-2)

@@ -6,19 +6,10 @@ use Rattle.search_showing.proofs.Columns.{column-splits, column-reads, 
 use Rattle.search_showing.proofs.column.Statement.{statement}
 use Rattle.search_showing.proofs.column.Tie as tie
 
-splits-requires : tie.Need-splits-requires
-splits-requires c κs = search needs
-
-sub-t7 : tie.Need-sub-t7
-sub-t7 c = search needs
-
 returns : tie.Need-returns
 returns c =
     let a = c .before .before .before .args in
     sym (column-splits (a .mask) (a .bit) (a .lowest) (take (a .free) (a .vectors .now)) (sym (c .before .splits .ensures) ∙ c .if1 .taken))
-
-odd-requires : tie.Need-odd-requires
-odd-requires c κs = search needs
 
 returns-2 : tie.Need-returns-2
 returns-2 c =
@@ -31,4 +22,4 @@ returns-3 c =
     sym (column-differs (a .mask) (a .bit) (a .lowest) (take (a .free) (a .vectors .now)) (sym (c .before .before .before .splits .ensures) ∙ c .before .before .if1 .left) (λ e. c .if2 .left (c .before .odd .ensures ∙ e)))
 
 pub column-spec : {M : Type 1} → statement M
-column-spec = tie.close (tie.spec splits-requires sub-t7 returns odd-requires returns-2 returns-3)
+column-spec = tie.close (tie.spec (λ c κs. search needs) (λ c. search needs) returns (λ c κs. search needs) returns-2 returns-3)

@@ -20,23 +20,8 @@ Inv-loop pattern table rows lowest vectors free group dead base lane₀ lane = (
 abbrev μ-loop : tie.MeasureT-loop
 μ-loop pattern table rows lowest vectors free group dead base lane₀ lane = 64 - lane
 
-mul-base : tie.Need-mul-base Inv-loop μ-loop
-mul-base c = search needs
-
 loop-holds : tie.Need-loop-holds Inv-loop μ-loop
 loop-holds c = (omega arith, λ j h. absurd (omega arith))
-
-digit-requires : tie.Need-digit-requires Inv-loop μ-loop
-digit-requires c κs = search needs
-
-add-member : tie.Need-add-member Inv-loop μ-loop
-add-member c = search needs
-
-member-requires : tie.Need-member-requires Inv-loop μ-loop
-member-requires c κs = search needs
-
-first-shown-requires : tie.Need-first-shown-requires Inv-loop μ-loop
-first-shown-requires c κs = search needs
 
 returns : tie.Need-returns Inv-loop μ-loop
 returns c =
@@ -47,12 +32,6 @@ returns c =
       before = l .inv .1;
       here = λ h. rw (sym (c .before .before .member .ensures)) (first-none (a .pattern) (a .table .now) (a .rows) _ (c .before .first-shown .result) (c .before .first-shown .ensures) (c .if2 .taken));
     }
-
-add-lane : tie.Need-add-lane Inv-loop μ-loop
-add-lane c = search needs
-
-loop-less : tie.Need-loop-less Inv-loop μ-loop
-loop-less c = search needs
 
 loop-again : tie.Need-loop-again Inv-loop μ-loop
 loop-again c =
@@ -75,14 +54,14 @@ clear-lane-spec =
     (tie.spec
     Inv-loop
     μ-loop
-    mul-base
+    (λ c. search needs)
     loop-holds
-    digit-requires
-    add-member
-    member-requires
-    first-shown-requires
+    (λ c κs. search needs)
+    (λ c. search needs)
+    (λ c κs. search needs)
+    (λ c κs. search needs)
     returns
-    add-lane
-    loop-less
+    (λ c. search needs)
+    (λ c. search needs)
     loop-again
     returns-2)

@@ -18,9 +18,6 @@ Inv-loop pattern table rows lowest vectors free words count before columns group
 abbrev μ-loop : tie.MeasureT-loop
 μ-loop pattern table rows lowest vectors free words count before columns groups group₀ group = groups - group
 
-sub-groups : tie.Need-sub-groups Inv-loop μ-loop
-sub-groups c = search needs
-
 shl-groups : tie.Need-shl-groups Inv-loop μ-loop
 shl-groups c = omega (arith, c .before .before .before .pre .0 .0 .few)
 
@@ -39,12 +36,6 @@ dead-lanes-requires c κs =
 
 mul-member : tie.Need-mul-member Inv-loop μ-loop
 mul-member c = let i = c .before .before .before .loop .inv .0 in search needs
-
-member-requires : tie.Need-member-requires Inv-loop μ-loop
-member-requires c κs = search needs
-
-reached-requires : tie.Need-reached-requires Inv-loop μ-loop
-reached-requires c κs = search needs
 
 returns : tie.Need-returns Inv-loop μ-loop
 returns c =
@@ -70,12 +61,6 @@ mul-member-2 c = let i = c .before .before .before .before .before .before .befo
 add-member : tie.Need-add-member Inv-loop μ-loop
 add-member c = let i = c .before .before .before .before .before .before .before .before .loop .inv .0 in search needs
 
-member-requires-2 : tie.Need-member-requires-2 Inv-loop μ-loop
-member-requires-2 c κs = search needs
-
-lower-of-requires : tie.Need-lower-of-requires Inv-loop μ-loop
-lower-of-requires c κs = search needs
-
 returns-2 : tie.Need-returns-2 Inv-loop μ-loop
 returns-2 c =
     let s = c .before .before .before .before .before .before .before .before .before .before .before .before .before .before in
@@ -86,12 +71,6 @@ returns-2 c =
     found-number (a .pattern) (a .table .now) (a .rows) (a .lowest) (take (a .free) (a .vectors .now)) (a .before) (c .lower-of .result) (l .group * 64 + k .result) (m .result) (s .pre .1 .0) (search needs) (m .ensures)
     (rw (m .ensures) (k .ensures .here (c .before .before .if3 .taken)))
     (group-first (a .pattern) (a .table .now) (a .rows) (a .lowest) (take (a .free) (a .vectors .now)) (l .group) (k .result) (l .inv .1) (k .ensures)) (c .lower-of .ensures)
-
-add-group : tie.Need-add-group Inv-loop μ-loop
-add-group c = search needs
-
-loop-less : tie.Need-loop-less Inv-loop μ-loop
-loop-less c = search needs
 
 loop-again : tie.Need-loop-again Inv-loop μ-loop
 loop-again c =
@@ -125,21 +104,21 @@ sift-spec =
     (tie.spec
     Inv-loop
     μ-loop
-    sub-groups
+    (λ c. search needs)
     shl-groups
     loop-holds
     dead-lanes-requires
     mul-member
-    member-requires
-    reached-requires
+    (λ c κs. search needs)
+    (λ c κs. search needs)
     returns
     clear-lane-requires
     mul-member-2
     add-member
-    member-requires-2
-    lower-of-requires
+    (λ c κs. search needs)
+    (λ c κs. search needs)
     returns-2
-    add-group
-    loop-less
+    (λ c. search needs)
+    (λ c. search needs)
     loop-again
     returns-3)

@@ -20,21 +20,6 @@ loop-holds : tie.Need-loop-holds Inv-loop μ-loop
 unfolding units
 loop-holds c = (omega arith, refl, refl)
 
-shl-vectors : tie.Need-shl-vectors Inv-loop μ-loop
-shl-vectors c = search needs
-
-mul-vectors : tie.Need-mul-vectors Inv-loop μ-loop
-mul-vectors c = search needs
-
-array-write-vectors : tie.Need-array-write-vectors Inv-loop μ-loop
-array-write-vectors c = search needs
-
-add-cell : tie.Need-add-cell Inv-loop μ-loop
-add-cell c = search needs
-
-loop-less : tie.Need-loop-less Inv-loop μ-loop
-loop-less c = search needs
-
 loop-again : tie.Need-loop-again Inv-loop μ-loop
 loop-again c =
     let l = c .before .loop in
@@ -53,10 +38,10 @@ units-spec =
     Inv-loop
     μ-loop
     loop-holds
-    shl-vectors
-    mul-vectors
-    array-write-vectors
-    add-cell
-    loop-less
+    (λ c. search needs)
+    (λ c. search needs)
+    (λ c. search needs)
+    (λ c. search needs)
+    (λ c. search needs)
     loop-again
     returns)

@@ -17,27 +17,6 @@ abbrev μ-loop : tie.MeasureT-loop
 loop-holds : tie.Need-loop-holds Inv-loop μ-loop
 loop-holds c = choosing-start (c .args .specified) (c .args .masks .now) (c .args .chosen .now)
 
-mul-chosen : tie.Need-mul-chosen Inv-loop μ-loop
-mul-chosen c = search needs
-
-shared-slice-read-chosen : tie.Need-shared-slice-read-chosen Inv-loop μ-loop
-shared-slice-read-chosen c = search needs
-
-mul-chosen-2 : tie.Need-mul-chosen-2 Inv-loop μ-loop
-mul-chosen-2 c = search needs
-
-slice-write-chosen : tie.Need-slice-write-chosen Inv-loop μ-loop
-slice-write-chosen c = search needs
-
-add-count : tie.Need-add-count Inv-loop μ-loop
-add-count c = search needs
-
-add-chain : tie.Need-add-chain Inv-loop μ-loop
-add-chain c = search needs
-
-loop-less : tie.Need-loop-less Inv-loop μ-loop
-loop-less c = search needs
-
 loop-again : tie.Need-loop-again Inv-loop μ-loop
 loop-again c =
     let a = c .before .before .before .args in
@@ -46,9 +25,6 @@ loop-again c =
     (λ w. rw (w .2, w .3) (choosing-take (a .specified) (a .masks .now) (a .chosen .now) (l .left) (l .count) (l .chain) (l .chosen) (omega arith) (l .inv) (w .0 .taken)))
     (λ w. rw (w .1, w .2) (choosing-skip (a .specified) (a .masks .now) (a .chosen .now) (l .left) (l .count) (l .chain) (l .chosen) (omega arith) (l .inv) (w .0 .left)))
     (c .if1 .came)
-
-same-length : tie.Need-same-length Inv-loop μ-loop
-same-length c = search needs
 
 returns : tie.Need-returns Inv-loop μ-loop
 returns c =
@@ -64,13 +40,13 @@ choose-spec =
     Inv-loop
     μ-loop
     loop-holds
-    mul-chosen
-    shared-slice-read-chosen
-    mul-chosen-2
-    slice-write-chosen
-    add-count
-    add-chain
-    loop-less
+    (λ c. search needs)
+    (λ c. search needs)
+    (λ c. search needs)
+    (λ c. search needs)
+    (λ c. search needs)
+    (λ c. search needs)
+    (λ c. search needs)
     loop-again
-    same-length
+    (λ c. search needs)
     returns)

@@ -6,21 +6,6 @@ use Rattle.search_table.proofs.Filling.{entry-first, entry-next}
 use Rattle.search_table.proofs.entry.Statement.{statement}
 use Rattle.search_table.proofs.entry.Tie as tie
 
-mul-result : tie.Need-mul-result
-mul-result c = search needs
-
-shared-slice-read-result : tie.Need-shared-slice-read-result
-shared-slice-read-result c = search needs
-
-mul-pull : tie.Need-mul-pull
-mul-pull c = search needs
-
-shared-slice-read-pull : tie.Need-shared-slice-read-pull
-shared-slice-read-pull c = search needs
-
-pull-requires : tie.Need-pull-requires
-pull-requires c κs = search needs
-
 returns : tie.Need-returns
 returns c =
     let a = c .before .before .before .before .args in
@@ -35,10 +20,10 @@ pub entry-spec : {M : Type 1} → statement M
 entry-spec =
     tie.close
     (tie.spec
-    mul-result
-    shared-slice-read-result
-    mul-pull
-    shared-slice-read-pull
-    pull-requires
+    (λ c. search needs)
+    (λ c. search needs)
+    (λ c. search needs)
+    (λ c. search needs)
+    (λ c κs. search needs)
     returns
     returns-2)

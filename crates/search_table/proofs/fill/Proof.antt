@@ -13,9 +13,6 @@ Inv-loop taps masks rows table₀ count place₀ table place = Filled taps rows 
 abbrev μ-loop : tie.MeasureT-loop
 μ-loop taps masks rows table₀ count place₀ table place = count - place
 
-mul-count : tie.Need-mul-count Inv-loop μ-loop
-mul-count c = search needs
-
 loop-holds : tie.Need-loop-holds Inv-loop μ-loop
 loop-holds c =
     let s = c .before .before in
@@ -26,19 +23,10 @@ entry-requires c κs =
     let s = c .before .before .before .before .before in
     omega (arith, filled-length (s .args .taps) (s .args .rows) (s .args .masks .now) (s .args .table .now) (s .pre) (c .before .before .loop .table) (c .before .before .loop .place) (c .before .before .loop .inv), s .pre)
 
-mul-table : tie.Need-mul-table Inv-loop μ-loop
-mul-table c = search needs
-
 slice-write-table : tie.Need-slice-write-table Inv-loop μ-loop
 slice-write-table c =
     let s = c .before .before .before .before .before .before in
     omega (arith, filled-length (s .args .taps) (s .args .rows) (s .args .masks .now) (s .args .table .now) (s .pre) (c .before .before .before .loop .table) (c .before .before .before .loop .place) (c .before .before .before .loop .inv), s .pre)
-
-add-place : tie.Need-add-place Inv-loop μ-loop
-add-place c = search needs
-
-loop-less : tie.Need-loop-less Inv-loop μ-loop
-loop-less c = search needs
 
 loop-again : tie.Need-loop-again Inv-loop μ-loop
 loop-again c =
@@ -64,13 +52,13 @@ fill-spec =
     (tie.spec
     Inv-loop
     μ-loop
-    mul-count
+    (λ c. search needs)
     loop-holds
     entry-requires
-    mul-table
+    (λ c. search needs)
     slice-write-table
-    add-place
-    loop-less
+    (λ c. search needs)
+    (λ c. search needs)
     loop-again
     same-length
     returns)

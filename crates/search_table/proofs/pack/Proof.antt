@@ -15,17 +15,8 @@ Inv-loop specified bits chains left₀ word₀ left word = (left ≤ left₀) ×
 abbrev μ-loop : tie.MeasureT-loop
 μ-loop specified bits chains left₀ word₀ left word = left
 
-lesser-requires : tie.Need-lesser-requires Inv-loop μ-loop
-lesser-requires c κs = search needs
-
 loop-holds : tie.Need-loop-holds Inv-loop μ-loop
 loop-holds c = (omega arith, pack-start (c .before .args .specified) (c .before .args .bits) (c .lesser .result))
-
-sub-left : tie.Need-sub-left Inv-loop μ-loop
-sub-left c = search needs
-
-digit-requires : tie.Need-digit-requires Inv-loop μ-loop
-digit-requires c κs = search needs
 
 mul-word : tie.Need-mul-word Inv-loop μ-loop
 mul-word c =
@@ -33,9 +24,6 @@ mul-word c =
     let l = c .before .before .before .loop in
     let r = pack-room (i .before .args .specified) (i .before .args .bits) (i .lesser .result) (l .left) (omega arith) (omega arith) (omega arith) in
     search needs
-
-digit-requires-2 : tie.Need-digit-requires-2 Inv-loop μ-loop
-digit-requires-2 c κs = search needs
 
 add-word : tie.Need-add-word Inv-loop μ-loop
 add-word c =
@@ -45,17 +33,11 @@ add-word c =
     let d = digit-lt (i .before .args .bits) (l .left - 1) in
     search needs
 
-loop-less : tie.Need-loop-less Inv-loop μ-loop
-loop-less c = search needs
-
 loop-again : tie.Need-loop-again Inv-loop μ-loop
 loop-again c =
     let i = c .before .before .before .before .before in
     let l = c .before .before .before .before .loop in
     (omega arith, rw (l .inv .1, c .digit2 .ensures) (pack-take (i .before .args .specified) (i .before .args .bits) (i .lesser .result) (l .left) (omega arith) (omega arith) (sym (c .before .before .digit .ensures) ∙ c .before .if1 .taken)))
-
-loop-less-2 : tie.Need-loop-less-2 Inv-loop μ-loop
-loop-less-2 c = search needs
 
 loop-again-2 : tie.Need-loop-again-2 Inv-loop μ-loop
 loop-again-2 c =
@@ -77,15 +59,15 @@ pack-spec =
     (tie.spec
     Inv-loop
     μ-loop
-    lesser-requires
+    (λ c κs. search needs)
     loop-holds
-    sub-left
-    digit-requires
+    (λ c. search needs)
+    (λ c κs. search needs)
     mul-word
-    digit-requires-2
+    (λ c κs. search needs)
     add-word
-    loop-less
+    (λ c. search needs)
     loop-again
-    loop-less-2
+    (λ c. search needs)
     loop-again-2
     returns)

@@ -6,9 +6,6 @@ use Rattle.stop_counting.proofs.Counting.{put-fits, put-bit-fits}
 use Rattle.stop_counting.proofs.put.Statement.{statement}
 use Rattle.stop_counting.proofs.put.Tie as tie
 
-shl-weight : tie.Need-shl-weight
-shl-weight c = search needs
-
 add-specified : tie.Need-add-specified
 add-specified c =
     let a = c .before .args in
@@ -28,4 +25,4 @@ returns : tie.Need-returns
 returns c = rw (one-shifted (c .before .before .args .position) (c .before .before .pre .0 .within))
 
 pub put-spec : {M : Type 1} → statement M
-put-spec = tie.close (tie.spec shl-weight add-specified mul-bits add-bits returns)
+put-spec = tie.close (tie.spec (λ c. search needs) add-specified mul-bits add-bits returns)

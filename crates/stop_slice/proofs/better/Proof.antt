@@ -6,12 +6,6 @@ use Rattle.stop_slice.proofs.Tracking.{track-more, track-less}
 use Rattle.stop_slice.proofs.better.Statement.{statement}
 use Rattle.stop_slice.proofs.better.Tie as tie
 
-enum-told : tie.Need-enum-told
-enum-told c = search needs
-
-enum-known-best : tie.Need-enum-known-best
-enum-known-best c = search needs
-
 returns : tie.Need-returns
 unfolding track
 returns c = let a = c .before .before .args in sym (ap (track (a .choice) (a .count)) (c .enum-told .given .1))
@@ -29,4 +23,4 @@ returns-3 c =
     sym (ap (track (a .choice) (a .count)) (b .1) ∙ track-less (a .choice) (a .count) (b .0 .0) (b .0 .1 .0) (c .if1 .left))
 
 pub better-spec : {M : Type 1} → statement M
-better-spec = tie.close (tie.spec enum-told enum-known-best returns returns-2 returns-3)
+better-spec = tie.close (tie.spec (λ c. search needs) (λ c. search needs) returns returns-2 returns-3)

@@ -19,17 +19,8 @@ loop-holds : tie.Need-loop-holds Inv-loop μ-loop
 unfolding choiceOf
 loop-holds c = (omega arith, refl)
 
-mul-loop : tie.Need-mul-loop Inv-loop μ-loop
-mul-loop c = search needs
-
 weigh-requires : tie.Need-weigh-requires Inv-loop μ-loop
 weigh-requires c κs = (omega arith, c .before .before .before .before .pre .1)
-
-add-choice : tie.Need-add-choice Inv-loop μ-loop
-add-choice c = search needs
-
-loop-less : tie.Need-loop-less Inv-loop μ-loop
-loop-less c = search needs
 
 loop-again : tie.Need-loop-again Inv-loop μ-loop
 loop-again c =
@@ -52,9 +43,9 @@ choose-spec =
     Inv-loop
     μ-loop
     loop-holds
-    mul-loop
+    (λ c. search needs)
     weigh-requires
-    add-choice
-    loop-less
+    (λ c. search needs)
+    (λ c. search needs)
     loop-again
     returns)

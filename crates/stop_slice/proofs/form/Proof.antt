@@ -27,20 +27,11 @@ next-requires c κs =
     let a = c .before .before .before .before .args in
     (c .before .before .before .before .pre, rw (l .inv .1) (stage-specified (a .chains) (a .specified .now) (a .bits .now) (l .steps)))
 
-add-steps : tie.Need-add-steps Inv-loop μ-loop
-add-steps c = search needs
-
-loop-less : tie.Need-loop-less Inv-loop μ-loop
-loop-less c = search needs
-
 loop-again : tie.Need-loop-again Inv-loop μ-loop
 loop-again c =
     let l = c .before .before .loop in
     let a = c .before .before .before .before .before .args in
     (omega arith, c .next .ensures ∙ ap (λ (s : TestSlice). nextOf (a .chains) s (a .specified .now) (a .bits .now)) (l .inv .1) ∙ next-stage (a .chains) (a .specified .now) (a .bits .now) (l .steps))
-
-count-in-requires : tie.Need-count-in-requires Inv-loop μ-loop
-count-in-requires c κs = search needs
 
 returns : tie.Need-returns Inv-loop μ-loop
 returns c =
@@ -60,9 +51,9 @@ form-spec =
     μ-loop
     loop-holds
     next-requires
-    add-steps
-    loop-less
+    (λ c. search needs)
+    (λ c. search needs)
     loop-again
-    count-in-requires
+    (λ c κs. search needs)
     returns
     returns-2)

@@ -8,23 +8,8 @@ use Rattle.stop_slice.proofs.OneStep.{next-empty, next-none, next-some,
 use Rattle.stop_slice.proofs.next.Statement.{statement}
 use Rattle.stop_slice.proofs.next.Tie as tie
 
-count-in-requires : tie.Need-count-in-requires
-count-in-requires c κs = search needs
-
 returns : tie.Need-returns
 returns c = sym (next-empty _ _ _ _ (sym (c .before .count-in .ensures) ∙ c .if1 .taken))
-
-choose-requires : tie.Need-choose-requires
-choose-requires c κs = search needs
-
-enum-told : tie.Need-enum-told
-enum-told c = search needs
-
-enum-known-best : tie.Need-enum-known-best
-enum-known-best c = search needs
-
-sub-put : tie.Need-sub-put
-sub-put c = search needs
 
 put-requires : tie.Need-put-requires
 put-requires c κs =
@@ -52,12 +37,12 @@ pub next-spec : {M : Type 1} → statement M
 next-spec =
     tie.close
     (tie.spec
-    count-in-requires
+    (λ c κs. search needs)
     returns
-    choose-requires
-    enum-told
-    enum-known-best
-    sub-put
+    (λ c κs. search needs)
+    (λ c. search needs)
+    (λ c. search needs)
+    (λ c. search needs)
     put-requires
     returns-2
     returns-3)

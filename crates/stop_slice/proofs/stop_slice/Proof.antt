@@ -8,12 +8,6 @@ use Rattle.stop_slice.proofs.stop_slice.Statement.{statement}
 use Rattle.refusal_order.specs.declared.Verdict.the-variants as verdict
 use Rattle.stop_slice.proofs.stop_slice.Tie as tie
 
-check-stop-requires : tie.Need-check-stop-requires
-check-stop-requires c κs = search needs
-
-enum-known-verdict : tie.Need-enum-known-verdict
-enum-known-verdict c = search needs
-
 enum-told : tie.Need-enum-told
 enum-told c = search needs
 
@@ -39,4 +33,4 @@ returns-2 c =
 pub stop-slice-spec : {M : Type 1} → statement M
 stop-slice-spec =
     tie.close
-    (tie.spec check-stop-requires enum-known-verdict enum-told form-requires returns returns-2)
+    (tie.spec (λ c κs. search needs) (λ c. search needs) enum-told form-requires returns returns-2)

@@ -11,19 +11,10 @@ use Rattle.stop_slice.proofs.Tracking.{weighed-set, weighed-unset}
 use Rattle.stop_slice.proofs.weigh.Statement.{statement}
 use Rattle.stop_slice.proofs.weigh.Tie as tie
 
-digit-requires : tie.Need-digit-requires
-digit-requires c κs = search needs
-
 put-requires : tie.Need-put-requires
 put-requires c κs =
     let s = c .before .before .before .before in
     (record { within = omega arith; unset = free-unset (s .args .stop) _ (sym (c .before .digit .ensures) ∙ c .if1 .taken); specified = s .pre .1 }, omega arith)
-
-count-in-requires : tie.Need-count-in-requires
-count-in-requires c κs = search needs
-
-better-requires : tie.Need-better-requires
-better-requires c κs = search needs
 
 returns : tie.Need-returns
 returns c =
@@ -40,4 +31,4 @@ returns-2 c = sym (weighed-set _ _ _ _ _ (λ z. c .if1 .left (c .before .digit .
 pub weigh-spec : {M : Type 1} → statement M
 weigh-spec =
     tie.close
-    (tie.spec digit-requires put-requires count-in-requires better-requires returns returns-2)
+    (tie.spec (λ c κs. search needs) put-requires (λ c κs. search needs) (λ c κs. search needs) returns returns-2)

@@ -28,9 +28,6 @@ part-read-some-start c = omega arith
 part-read-some-end : tie.Need-part-read-some-end Inv-loop μ-loop
 part-read-some-end c = omega arith
 
-read-some-requires : tie.Need-read-some-requires Inv-loop μ-loop
-read-some-requires c κs = search needs
-
 same-length : tie.Need-same-length Inv-loop μ-loop
 same-length c =
     let b = c .before .before in
@@ -80,7 +77,7 @@ read-all-spec =
     sub-read-some
     part-read-some-start
     part-read-some-end
-    read-some-requires
+    (λ c κs. search needs)
     same-length
     returns
     add-done

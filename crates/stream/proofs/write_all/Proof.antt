@@ -28,9 +28,6 @@ part-write-some-start c = omega arith
 part-write-some-end : tie.Need-part-write-some-end Inv-loop μ-loop
 part-write-some-end c = omega arith
 
-write-some-requires : tie.Need-write-some-requires Inv-loop μ-loop
-write-some-requires c κs = search needs
-
 returns : tie.Need-returns Inv-loop μ-loop
 returns c = let h = c .before .before .before .before .loop .inv in (h, sym (length-take-le _ _ h))
 
@@ -65,7 +62,7 @@ write-all-spec =
     sub-write-some
     part-write-some-start
     part-write-some-end
-    write-some-requires
+    (λ c κs. search needs)
     returns
     add-sent
     loop-less

@@ -15,12 +15,6 @@ abbrev μ-loop : tie.MeasureT-loop
 loop-holds : tie.Need-loop-holds Inv-loop μ-loop
 loop-holds c = omega arith
 
-write-requires : tie.Need-write-requires Inv-loop μ-loop
-write-requires c κs = search needs
-
-count-requires : tie.Need-count-requires Inv-loop μ-loop
-count-requires c κs = search needs
-
 returns : tie.Need-returns Inv-loop μ-loop
 returns c = c .count .ensures .0 .0
 
@@ -43,8 +37,8 @@ write-some-spec =
     Inv-loop
     μ-loop
     loop-holds
-    write-requires
-    count-requires
+    (λ c κs. search needs)
+    (λ c κs. search needs)
     returns
     add-attempts
     loop-less

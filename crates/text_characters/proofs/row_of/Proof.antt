@@ -27,9 +27,6 @@ sub-i c = omega arith
 shared-slice-read-b : tie.Need-shared-slice-read-b Inv-loop μ-loop
 shared-slice-read-b c = omega arith
 
-is-character-requires : tie.Need-is-character-requires Inv-loop μ-loop
-is-character-requires c κs = search needs
-
 returns : tie.Need-returns Inv-loop μ-loop
 returns c =
     let at = c .before .before .before .before in
@@ -41,9 +38,6 @@ mul-specified c =
     let q = row-fits (at .loop .specified) 1 (at .loop .i) _ (at .before .before .pre) (omega arith) (at .loop .inv .0) (at .loop .inv .2) (omega arith) .1 in
     omega arith
 
-specified-at-requires : tie.Need-specified-at-requires Inv-loop μ-loop
-specified-at-requires c κs = search needs
-
 add-specified : tie.Need-add-specified Inv-loop μ-loop
 add-specified c =
     let at = c .before .before .before .before .before in
@@ -54,9 +48,6 @@ mul-bits c =
     let at = c .before .before .before .before .before in
     let q = row-fits (at .loop .bits) 1 (at .loop .i) _ (at .before .before .pre) (omega arith) (at .loop .inv .0) (at .loop .inv .3) (omega arith) .1 in
     omega arith
-
-bit-at-requires : tie.Need-bit-at-requires Inv-loop μ-loop
-bit-at-requires c κs = search needs
 
 add-bits : tie.Need-add-bits Inv-loop μ-loop
 add-bits c =
@@ -85,13 +76,13 @@ row-of-spec =
     loop-holds
     sub-i
     shared-slice-read-b
-    is-character-requires
+    (λ c κs. search needs)
     returns
     mul-specified
-    specified-at-requires
+    (λ c κs. search needs)
     add-specified
     mul-bits
-    bit-at-requires
+    (λ c κs. search needs)
     add-bits
     loop-less
     loop-again

@@ -8,33 +8,6 @@ use lib.Seq.{length-take-le}
 use Rattle.text_replies.proofs.Read.{ends-whole, masks-within, items-within, bits-within, few-masks}
 use Rattle.text_encode.proofs.Concluding.{sheet-said, sheet-whole, sheet-refused}
 
-slice-aggregate-scan : tie.Need-slice-aggregate-scan
-slice-aggregate-scan c = search needs
-
-slice-aggregate-scan-2 : tie.Need-slice-aggregate-scan-2
-slice-aggregate-scan-2 c = search needs
-
-slice-aggregate-scan-3 : tie.Need-slice-aggregate-scan-3
-slice-aggregate-scan-3 c = search needs
-
-slice-aggregate-scan-4 : tie.Need-slice-aggregate-scan-4
-slice-aggregate-scan-4 c = search needs
-
-slice-aggregate-scan-5 : tie.Need-slice-aggregate-scan-5
-slice-aggregate-scan-5 c = search needs
-
-scan-requires : tie.Need-scan-requires
-scan-requires c κs = search needs
-
-enum-known-place : tie.Need-enum-known-place
-enum-known-place c = search needs
-
-slice-aggregate-settings : tie.Need-slice-aggregate-settings
-slice-aggregate-settings c = search needs
-
-settings-requires : tie.Need-settings-requires
-settings-requires c κs = search needs
-
 array-share-prefix-masks : tie.Need-array-share-prefix-masks
 array-share-prefix-masks c =
     let k = c .before .before .before in
@@ -46,12 +19,6 @@ slice-aggregate-encode-said c =
     let k = c .before .before .before .before in
     let s = k .before .before .before .before .before .before .before .scan .ensures in
     sym (length-take-le _ _ (masks-within _ _ _ (s .0) (k .place .given .1) _ (s .1 .1 .1 .0)))
-
-slice-aggregate-number : tie.Need-slice-aggregate-number
-slice-aggregate-number c = search needs
-
-number-requires : tie.Need-number-requires
-number-requires c κs = search needs
 
 array-share-prefix-firsts : tie.Need-array-share-prefix-firsts
 array-share-prefix-firsts c =
@@ -82,12 +49,6 @@ encode-said-requires c κs =
     let k = c .before .before .before .before .before .before .before .before .before in
     few-masks _ _ _ (k .before .before .before .before .before .before .before .scan .ensures .0) (k .place .given .1) _
 
-enum-known-refusal : tie.Need-enum-known-refusal
-enum-known-refusal c = search needs
-
-same-length : tie.Need-same-length
-same-length c = search needs
-
 returns : tie.Need-returns
 returns c =
     let r = c .before .before in
@@ -107,25 +68,25 @@ pub encode-text-spec : {M : Type 1} → statement M
 encode-text-spec =
     tie.close
     (tie.spec
-    slice-aggregate-scan
-    slice-aggregate-scan-2
-    slice-aggregate-scan-3
-    slice-aggregate-scan-4
-    slice-aggregate-scan-5
-    scan-requires
-    enum-known-place
-    slice-aggregate-settings
-    settings-requires
+    (λ c. search needs)
+    (λ c. search needs)
+    (λ c. search needs)
+    (λ c. search needs)
+    (λ c. search needs)
+    (λ c κs. search needs)
+    (λ c. search needs)
+    (λ c. search needs)
+    (λ c κs. search needs)
     array-share-prefix-masks
     slice-aggregate-encode-said
-    slice-aggregate-number
-    number-requires
+    (λ c. search needs)
+    (λ c κs. search needs)
     array-share-prefix-firsts
     slice-aggregate-encode-said-2
     array-share-prefix-seconds
     slice-aggregate-encode-said-3
     encode-said-requires
-    enum-known-refusal
-    same-length
+    (λ c. search needs)
+    (λ c. search needs)
     returns
     returns-2)

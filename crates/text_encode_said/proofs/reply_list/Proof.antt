@@ -11,12 +11,6 @@ use Rattle.text_encode_said.specs.Encoded.{listReply}
 use Rattle.text_replies.specs.Calls.{called}
 use Rattle.text_encode_said.proofs.Answering.{list-leaves}
 
-enum-known-encoded : tie.Need-enum-known-encoded
-enum-known-encoded c = search needs
-
-lesser-requires : tie.Need-lesser-requires
-lesser-requires c κs = search needs
-
 slice-aggregate-write-list : tie.Need-slice-aggregate-write-list
 slice-aggregate-write-list c =
     let l = c .before .before in
@@ -29,18 +23,6 @@ write-list-requires c κs =
     let s = c .before .before .before .before .before .before .before .before .before in
     let h = s .pre in
     (omega (arith, h .0), omega (arith, h .1, length-take (c .before .before .lesser .result) (s .args .seeds .now)))
-
-answered-requires : tie.Need-answered-requires
-answered-requires c κs = search needs
-
-enum-known-encoded-2 : tie.Need-enum-known-encoded-2
-enum-known-encoded-2 c = search needs
-
-refusal-of-requires : tie.Need-refusal-of-requires
-refusal-of-requires c κs = search needs
-
-same-length : tie.Need-same-length
-same-length c = search needs
 
 returns : tie.Need-returns
 returns c =
@@ -58,13 +40,13 @@ pub reply-list-spec : {M : Type 1} → statement M
 reply-list-spec =
     tie.close
     (tie.spec
-    enum-known-encoded
-    lesser-requires
+    (λ c. search needs)
+    (λ c κs. search needs)
     slice-aggregate-write-list
     write-list-requires
-    answered-requires
-    enum-known-encoded-2
-    refusal-of-requires
-    same-length
+    (λ c κs. search needs)
+    (λ c. search needs)
+    (λ c κs. search needs)
+    (λ c. search needs)
     returns
     returns-2)

@@ -5,9 +5,6 @@ use Rattle.text_entries.proofs.number.Tie as tie
 use native.Mathlib.Omega.{arith}
 use Rattle.text_entries.proofs.Heads.{rank-lt}
 
-rank-requires : tie.Need-rank-requires
-rank-requires c κs = search needs
-
 mul-result : tie.Need-mul-result
 mul-result c = let q = rank-lt (c .before .before .args .key) in rw (c .rank .ensures) (omega (arith, q))
 
@@ -18,4 +15,4 @@ returns : tie.Need-returns
 returns c = rw (c .before .rank .ensures)
 
 pub number-spec : {M : Type 1} → statement M
-number-spec = tie.close (tie.spec rank-requires mul-result shared-slice-read-result returns)
+number-spec = tie.close (tie.spec (λ c κs. search needs) mul-result shared-slice-read-result returns)

@@ -6,15 +6,6 @@ use mathlib.Core.Path.{sym}
 use lib.Seq.{set-out}
 use Rattle.text_entries.specs.Kept.{storedIf}
 
-mul-list : tie.Need-mul-list
-mul-list c = search needs
-
-slice-write-list : tie.Need-slice-write-list
-slice-write-list c = search needs
-
-same-length : tie.Need-same-length
-same-length c = search needs
-
 returns : tie.Need-returns
 unfolding storedIf
 returns c = rw (c .before .if1 .taken, storedIf)
@@ -28,4 +19,4 @@ unfolding storedIf
 returns-3 c = rw (c .if1 .left, storedIf)
 
 pub store-spec : {M : Type 1} → statement M
-store-spec = tie.close (tie.spec mul-list slice-write-list same-length returns returns-2 returns-3)
+store-spec = tie.close (tie.spec (λ c. search needs) (λ c. search needs) (λ c. search needs) returns returns-2 returns-3)

@@ -8,45 +8,6 @@ use lib.Seq.{length-take-le}
 use Rattle.text_replies.proofs.Read.{ends-whole, masks-within, items-within, few-masks}
 use Rattle.text_expand.proofs.Concluding.{list-said, list-whole, list-refused}
 
-slice-aggregate-scan : tie.Need-slice-aggregate-scan
-slice-aggregate-scan c = search needs
-
-slice-aggregate-scan-2 : tie.Need-slice-aggregate-scan-2
-slice-aggregate-scan-2 c = search needs
-
-slice-aggregate-scan-3 : tie.Need-slice-aggregate-scan-3
-slice-aggregate-scan-3 c = search needs
-
-slice-aggregate-scan-4 : tie.Need-slice-aggregate-scan-4
-slice-aggregate-scan-4 c = search needs
-
-slice-aggregate-scan-5 : tie.Need-slice-aggregate-scan-5
-slice-aggregate-scan-5 c = search needs
-
-scan-requires : tie.Need-scan-requires
-scan-requires c κs = search needs
-
-enum-known-place : tie.Need-enum-known-place
-enum-known-place c = search needs
-
-slice-aggregate-number : tie.Need-slice-aggregate-number
-slice-aggregate-number c = search needs
-
-number-requires : tie.Need-number-requires
-number-requires c κs = search needs
-
-slice-aggregate-number-2 : tie.Need-slice-aggregate-number-2
-slice-aggregate-number-2 c = search needs
-
-number-requires-2 : tie.Need-number-requires-2
-number-requires-2 c κs = search needs
-
-slice-aggregate-settings : tie.Need-slice-aggregate-settings
-slice-aggregate-settings c = search needs
-
-settings-requires : tie.Need-settings-requires
-settings-requires c κs = search needs
-
 array-share-prefix-masks : tie.Need-array-share-prefix-masks
 array-share-prefix-masks c =
     let k = c .before .before .before .before .before .before .before in
@@ -58,12 +19,6 @@ slice-aggregate-expand-said c =
     let k = c .before .before .before .before .before .before .before .before in
     let s = k .before .before .before .before .before .before .before .scan .ensures in
     sym (length-take-le _ _ (masks-within _ _ _ (s .0) (k .place .given .1) _ (s .1 .1 .1 .0)))
-
-slice-aggregate-number-3 : tie.Need-slice-aggregate-number-3
-slice-aggregate-number-3 c = search needs
-
-number-requires-3 : tie.Need-number-requires-3
-number-requires-3 c κs = search needs
 
 array-share-prefix-firsts : tie.Need-array-share-prefix-firsts
 array-share-prefix-firsts c =
@@ -81,12 +36,6 @@ expand-said-requires : tie.Need-expand-said-requires
 expand-said-requires c κs =
     let k = c .before .before .before .before .before .before .before .before .before .before .before .before in
     few-masks _ _ _ (k .before .before .before .before .before .before .before .scan .ensures .0) (k .place .given .1) _
-
-enum-known-refusal : tie.Need-enum-known-refusal
-enum-known-refusal c = search needs
-
-same-length : tie.Need-same-length
-same-length c = search needs
 
 returns : tie.Need-returns
 returns c =
@@ -109,27 +58,27 @@ pub expand-text-spec : {M : Type 1} → statement M
 expand-text-spec =
     tie.close
     (tie.spec
-    slice-aggregate-scan
-    slice-aggregate-scan-2
-    slice-aggregate-scan-3
-    slice-aggregate-scan-4
-    slice-aggregate-scan-5
-    scan-requires
-    enum-known-place
-    slice-aggregate-number
-    number-requires
-    slice-aggregate-number-2
-    number-requires-2
-    slice-aggregate-settings
-    settings-requires
+    (λ c. search needs)
+    (λ c. search needs)
+    (λ c. search needs)
+    (λ c. search needs)
+    (λ c. search needs)
+    (λ c κs. search needs)
+    (λ c. search needs)
+    (λ c. search needs)
+    (λ c κs. search needs)
+    (λ c. search needs)
+    (λ c κs. search needs)
+    (λ c. search needs)
+    (λ c κs. search needs)
     array-share-prefix-masks
     slice-aggregate-expand-said
-    slice-aggregate-number-3
-    number-requires-3
+    (λ c. search needs)
+    (λ c κs. search needs)
     array-share-prefix-firsts
     slice-aggregate-expand-said-2
     expand-said-requires
-    enum-known-refusal
-    same-length
+    (λ c. search needs)
+    (λ c. search needs)
     returns
     returns-2)

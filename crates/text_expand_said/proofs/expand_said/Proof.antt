@@ -4,21 +4,6 @@ use Rattle.text_expand_said.proofs.expand_said.Statement.{statement}
 use Rattle.text_expand_said.proofs.expand_said.Tie as tie
 use Rattle.text_expand_said.specs.Expanded.{expanded}
 
-slice-aggregate-expand-list : tie.Need-slice-aggregate-expand-list
-slice-aggregate-expand-list c = search needs
-
-expand-list-requires : tie.Need-expand-list-requires
-expand-list-requires c κs = search needs
-
-slice-aggregate-reply-slices : tie.Need-slice-aggregate-reply-slices
-slice-aggregate-reply-slices c = search needs
-
-reply-slices-requires : tie.Need-reply-slices-requires
-reply-slices-requires c κs = search needs
-
-same-length : tie.Need-same-length
-same-length c = search needs
-
 returns : tie.Need-returns
 unfolding expanded
 returns c =
@@ -30,9 +15,9 @@ pub expand-said-spec : {M : Type 1} → statement M
 expand-said-spec =
     tie.close
     (tie.spec
-    slice-aggregate-expand-list
-    expand-list-requires
-    slice-aggregate-reply-slices
-    reply-slices-requires
-    same-length
+    (λ c. search needs)
+    (λ c κs. search needs)
+    (λ c. search needs)
+    (λ c κs. search needs)
+    (λ c. search needs)
     returns)

@@ -11,12 +11,6 @@ use Rattle.text_expand_said.specs.Expanded.{slicesReply}
 use Rattle.text_replies.specs.Calls.{called}
 use Rattle.text_expand_said.proofs.Answering.{slices-leave}
 
-enum-known-written : tie.Need-enum-known-written
-enum-known-written c = search needs
-
-lesser-requires : tie.Need-lesser-requires
-lesser-requires c κs = search needs
-
 slice-aggregate-write-slices : tie.Need-slice-aggregate-write-slices
 slice-aggregate-write-slices c =
     let l = c .before .before in
@@ -29,18 +23,6 @@ write-slices-requires c κs =
     let s = c .before .before .before .before .before .before .before .before in
     let h = s .pre in
     (h .0, omega (arith, h .1, length-take (c .before .before .lesser .result) (s .args .slices .now)))
-
-answered-requires : tie.Need-answered-requires
-answered-requires c κs = search needs
-
-enum-known-written-2 : tie.Need-enum-known-written-2
-enum-known-written-2 c = search needs
-
-refusal-of-requires : tie.Need-refusal-of-requires
-refusal-of-requires c κs = search needs
-
-same-length : tie.Need-same-length
-same-length c = search needs
 
 returns : tie.Need-returns
 returns c =
@@ -58,13 +40,13 @@ pub reply-slices-spec : {M : Type 1} → statement M
 reply-slices-spec =
     tie.close
     (tie.spec
-    enum-known-written
-    lesser-requires
+    (λ c. search needs)
+    (λ c κs. search needs)
     slice-aggregate-write-slices
     write-slices-requires
-    answered-requires
-    enum-known-written-2
-    refusal-of-requires
-    same-length
+    (λ c κs. search needs)
+    (λ c. search needs)
+    (λ c κs. search needs)
+    (λ c. search needs)
     returns
     returns-2)

@@ -5,18 +5,6 @@ use Rattle.text_lines.proofs.formed.Tie as tie
 use mathlib.Core.Path.{sym, _∙_}
 use Rattle.text_lines.proofs.Values.{formed-known, formed-unknown}
 
-key-of-requires : tie.Need-key-of-requires
-key-of-requires c κs = search needs
-
-enum-known-key : tie.Need-enum-known-key
-enum-known-key c = search needs
-
-keyed-requires : tie.Need-keyed-requires
-keyed-requires c κs = search needs
-
-enum-told : tie.Need-enum-told
-enum-told c = search needs
-
 returns : tie.Need-returns
 returns c =
     let k = c .before .before in
@@ -27,4 +15,4 @@ returns-2 c = sym (formed-unknown _ _ (sym (c .before .before .key-of .ensures) 
 
 pub formed-spec : {M : Type 1} → statement M
 formed-spec =
-    tie.close (tie.spec key-of-requires enum-known-key keyed-requires enum-told returns returns-2)
+    tie.close (tie.spec (λ c κs. search needs) (λ c. search needs) (λ c κs. search needs) (λ c. search needs) returns returns-2)

@@ -9,20 +9,8 @@ use Rattle.text_keys.specs.Keys.{longest}
 use Rattle.text_lines.specs.Form.{valued}
 use Rattle.text_lines.proofs.Values.{keyed-long, keyed-value}
 
-longest-requires : tie.Need-longest-requires
-longest-requires c κs = search needs
-
 returns : tie.Need-returns
 returns c = sym (keyed-long _ _ _ (rw (← (c .before .longest .ensures)) (c .if1 .taken)))
-
-name-length-requires : tie.Need-name-length-requires
-name-length-requires c κs = search needs
-
-tail-requires : tie.Need-tail-requires
-tail-requires c κs = search needs
-
-valued-requires : tie.Need-valued-requires
-valued-requires c κs = search needs
 
 returns-2 : tie.Need-returns-2
 returns-2 c =
@@ -35,9 +23,9 @@ pub keyed-spec : {M : Type 1} → statement M
 keyed-spec =
     tie.close
     (tie.spec
-    longest-requires
+    (λ c κs. search needs)
     returns
-    name-length-requires
-    tail-requires
-    valued-requires
+    (λ c κs. search needs)
+    (λ c κs. search needs)
+    (λ c κs. search needs)
     returns-2)

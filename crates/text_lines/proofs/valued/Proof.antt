@@ -6,33 +6,6 @@ use mathlib.Core.Path.{sym, ap, _∙_}
 use Rattle.text_lines.specs.Form.{numbered}
 use Rattle.text_lines.proofs.Values.{valued-decimal, valued-hexadecimal, valued-chainwise}
 
-notation-of-requires : tie.Need-notation-of-requires
-notation-of-requires c κs = search needs
-
-enum-told : tie.Need-enum-told
-enum-told c = search needs
-
-number-requires : tie.Need-number-requires
-number-requires c κs = search needs
-
-numbered-requires : tie.Need-numbered-requires
-numbered-requires c κs = search needs
-
-enum-told-2 : tie.Need-enum-told-2
-enum-told-2 c = search needs
-
-number-requires-2 : tie.Need-number-requires-2
-number-requires-2 c κs = search needs
-
-numbered-requires-2 : tie.Need-numbered-requires-2
-numbered-requires-2 c κs = search needs
-
-enum-told-3 : tie.Need-enum-told-3
-enum-told-3 c = search needs
-
-characters-requires : tie.Need-characters-requires
-characters-requires c κs = search needs
-
 returns : tie.Need-returns
 returns c =
     let t = c .before .before in
@@ -52,15 +25,15 @@ pub valued-spec : {M : Type 1} → statement M
 valued-spec =
     tie.close
     (tie.spec
-    notation-of-requires
-    enum-told
-    number-requires
-    numbered-requires
-    enum-told-2
-    number-requires-2
-    numbered-requires-2
-    enum-told-3
-    characters-requires
+    (λ c κs. search needs)
+    (λ c. search needs)
+    (λ c κs. search needs)
+    (λ c κs. search needs)
+    (λ c. search needs)
+    (λ c κs. search needs)
+    (λ c κs. search needs)
+    (λ c. search needs)
+    (λ c κs. search needs)
     returns
     returns-2
     returns-3)

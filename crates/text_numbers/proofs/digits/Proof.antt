@@ -23,9 +23,6 @@ loop-holds c = (omega arith, rw pow-zero (omega arith), refl)
 shared-slice-read-worth : tie.Need-shared-slice-read-worth Inv-loop μ-loop
 shared-slice-read-worth c = omega arith
 
-worth-requires : tie.Need-worth-requires Inv-loop μ-loop
-worth-requires c κs = search needs
-
 returns : tie.Need-returns Inv-loop μ-loop
 returns c =
     let at = c .before .before .before .before in
@@ -68,7 +65,7 @@ digits-spec =
     μ-loop
     loop-holds
     shared-slice-read-worth
-    worth-requires
+    (λ c κs. search needs)
     returns
     mul-v
     add-v

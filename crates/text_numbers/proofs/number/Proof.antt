@@ -10,14 +10,8 @@ use borrow.Author.Tests.{not-true, not-false}
 use Rattle.words_bounded.proofs.Tests.{within-yes}
 use Rattle.text_numbers.proofs.Numerals.{zero-leads, no-zero-leads, number-length, number-zero, number-digits}
 
-within-requires : tie.Need-within-requires
-within-requires c κs = search needs
-
 returns : tie.Need-returns
 returns c = sym (number-length _ _ _ (sym (c .before .within .ensures) ∙ not-true _ (c .if1 .taken)))
-
-shared-slice-read-if3 : tie.Need-shared-slice-read-if3
-shared-slice-read-if3 c = search needs
 
 returns-2 : tie.Need-returns-2
 returns-2 c =
@@ -39,4 +33,4 @@ returns-3 c =
 pub number-spec : {M : Type 1} → statement M
 number-spec =
     tie.close
-    (tie.spec within-requires returns shared-slice-read-if3 returns-2 digits-requires returns-3)
+    (tie.spec (λ c κs. search needs) returns (λ c. search needs) returns-2 digits-requires returns-3)

@@ -19,9 +19,6 @@ returns-3 : tie.Need-returns-3
 unfolding worth within
 returns-3 c = rw (le-leb _ _ (c .before .before .if1 .left), lt-leb _ _ (c .before .if2 .left), lt-leb _ _ (c .if3 .taken), worth)
 
-sub-result : tie.Need-sub-result
-sub-result c = search needs
-
 returns-4 : tie.Need-returns-4
 unfolding worth within
 returns-4 c = rw (le-leb _ _ (c .before .before .before .if1 .left), lt-leb _ _ (c .before .before .if2 .left), le-leb _ _ (c .before .if3 .left), le-leb _ _ (c .if4 .taken), worth)
@@ -31,4 +28,4 @@ unfolding worth within
 returns-5 c = rw (le-leb _ _ (c .before .before .before .if1 .left), lt-leb _ _ (c .before .before .if2 .left), le-leb _ _ (c .before .if3 .left), lt-leb _ _ (c .if4 .left), worth)
 
 pub worth-spec : {M : Type 1} → statement M
-worth-spec = tie.close (tie.spec returns returns-2 returns-3 sub-result returns-4 returns-5)
+worth-spec = tie.close (tie.spec returns returns-2 returns-3 (λ c. search needs) returns-4 returns-5)

@@ -4,12 +4,6 @@ use Rattle.text_order.proofs.after_chains.Statement.{statement}
 use Rattle.text_order.proofs.after_chains.Tie as tie
 use Rattle.text_order.specs.Order.{afterChains}
 
-enum-told : tie.Need-enum-told
-enum-told c = search needs
-
-enum-told-2 : tie.Need-enum-told-2
-enum-told-2 c = search needs
-
 returns : tie.Need-returns
 unfolding afterChains
 returns c = rw (c .enum-told .given .1)
@@ -19,4 +13,4 @@ unfolding afterChains
 returns-2 c = rw (c .enum-told2 .given .1)
 
 pub after-chains-spec : {M : Type 1} → statement M
-after-chains-spec = tie.close (tie.spec enum-told enum-told-2 returns returns-2)
+after-chains-spec = tie.close (tie.spec (λ c. search needs) (λ c. search needs) returns returns-2)

@@ -5,12 +5,6 @@ use Rattle.text_order.proofs.after_mask.Tie as tie
 use borrow.Author.Tests.{lt-ltb, le-ltb}
 use Rattle.text_order.specs.Order.{afterMask}
 
-add-if1 : tie.Need-add-if1
-add-if1 c = search needs
-
-after-chains-requires : tie.Need-after-chains-requires
-after-chains-requires c κs = search needs
-
 returns : tie.Need-returns
 unfolding afterMask
 returns c = rw (lt-ltb _ _ (c .if1 .taken), afterMask)
@@ -20,4 +14,4 @@ unfolding afterMask
 returns-2 c = rw (le-ltb _ _ (c .before .if1 .left), afterMask) (c .after-chains .ensures)
 
 pub after-mask-spec : {M : Type 1} → statement M
-after-mask-spec = tie.close (tie.spec add-if1 after-chains-requires returns returns-2)
+after-mask-spec = tie.close (tie.spec (λ c. search needs) (λ c κs. search needs) returns returns-2)

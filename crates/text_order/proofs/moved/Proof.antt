@@ -4,57 +4,6 @@ use Rattle.text_order.proofs.moved.Statement.{statement}
 use Rattle.text_order.proofs.moved.Tie as tie
 use Rattle.text_order.specs.Order.{moved}
 
-enum-told : tie.Need-enum-told
-enum-told c = search needs
-
-enum-told-2 : tie.Need-enum-told-2
-enum-told-2 c = search needs
-
-on-to-requires : tie.Need-on-to-requires
-on-to-requires c κs = search needs
-
-enum-told-3 : tie.Need-enum-told-3
-enum-told-3 c = search needs
-
-enum-told-4 : tie.Need-enum-told-4
-enum-told-4 c = search needs
-
-after-mask-requires : tie.Need-after-mask-requires
-after-mask-requires c κs = search needs
-
-add-t12 : tie.Need-add-t12
-add-t12 c = search needs
-
-enum-told-5 : tie.Need-enum-told-5
-enum-told-5 c = search needs
-
-on-to-requires-2 : tie.Need-on-to-requires-2
-on-to-requires-2 c κs = search needs
-
-enum-told-6 : tie.Need-enum-told-6
-enum-told-6 c = search needs
-
-after-item-requires : tie.Need-after-item-requires
-after-item-requires c κs = search needs
-
-enum-told-7 : tie.Need-enum-told-7
-enum-told-7 c = search needs
-
-on-to-requires-3 : tie.Need-on-to-requires-3
-on-to-requires-3 c κs = search needs
-
-enum-told-8 : tie.Need-enum-told-8
-enum-told-8 c = search needs
-
-on-to-requires-4 : tie.Need-on-to-requires-4
-on-to-requires-4 c κs = search needs
-
-enum-told-9 : tie.Need-enum-told-9
-enum-told-9 c = search needs
-
-after-item-requires-2 : tie.Need-after-item-requires-2
-after-item-requires-2 c κs = search needs
-
 returns : tie.Need-returns
 unfolding moved
 returns c = rw (c .enum-told .given .1)
@@ -95,23 +44,23 @@ pub moved-spec : {M : Type 1} → statement M
 moved-spec =
     tie.close
     (tie.spec
-    enum-told
-    enum-told-2
-    on-to-requires
-    enum-told-3
-    enum-told-4
-    after-mask-requires
-    add-t12
-    enum-told-5
-    on-to-requires-2
-    enum-told-6
-    after-item-requires
-    enum-told-7
-    on-to-requires-3
-    enum-told-8
-    on-to-requires-4
-    enum-told-9
-    after-item-requires-2
+    (λ c. search needs)
+    (λ c. search needs)
+    (λ c κs. search needs)
+    (λ c. search needs)
+    (λ c. search needs)
+    (λ c κs. search needs)
+    (λ c. search needs)
+    (λ c. search needs)
+    (λ c κs. search needs)
+    (λ c. search needs)
+    (λ c κs. search needs)
+    (λ c. search needs)
+    (λ c κs. search needs)
+    (λ c. search needs)
+    (λ c κs. search needs)
+    (λ c. search needs)
+    (λ c κs. search needs)
     returns
     returns-2
     returns-3

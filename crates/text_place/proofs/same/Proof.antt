@@ -4,15 +4,9 @@ use Rattle.text_place.proofs.same.Statement.{statement}
 use Rattle.text_place.proofs.same.Tie as tie
 use Rattle.text_keys.specs.Keys.{same}
 
-rank-requires : tie.Need-rank-requires
-rank-requires c κs = search needs
-
-rank-requires-2 : tie.Need-rank-requires-2
-rank-requires-2 c κs = search needs
-
 returns : tie.Need-returns
 unfolding same
 returns c = rw (c .before .rank .ensures, c .rank2 .ensures)
 
 pub same-spec : {M : Type 1} → statement M
-same-spec = tie.close (tie.spec rank-requires rank-requires-2 returns)
+same-spec = tie.close (tie.spec (λ c κs. search needs) (λ c κs. search needs) returns)

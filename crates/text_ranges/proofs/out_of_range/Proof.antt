@@ -4,51 +4,6 @@ use Rattle.text_ranges.proofs.out_of_range.Statement.{statement}
 use Rattle.text_ranges.proofs.out_of_range.Tie as tie
 use Rattle.text_ranges.specs.Ranges.{outOfRange}
 
-enum-told : tie.Need-enum-told
-enum-told c = search needs
-
-within-requires : tie.Need-within-requires
-within-requires c κs = search needs
-
-enum-told-2 : tie.Need-enum-told-2
-enum-told-2 c = search needs
-
-bad-register-requires : tie.Need-bad-register-requires
-bad-register-requires c κs = search needs
-
-enum-told-3 : tie.Need-enum-told-3
-enum-told-3 c = search needs
-
-bad-count-requires : tie.Need-bad-count-requires
-bad-count-requires c κs = search needs
-
-enum-told-4 : tie.Need-enum-told-4
-enum-told-4 c = search needs
-
-bad-mask-requires : tie.Need-bad-mask-requires
-bad-mask-requires c κs = search needs
-
-enum-told-5 : tie.Need-enum-told-5
-enum-told-5 c = search needs
-
-within-requires-2 : tie.Need-within-requires-2
-within-requires-2 c κs = search needs
-
-enum-told-6 : tie.Need-enum-told-6
-enum-told-6 c = search needs
-
-enum-told-7 : tie.Need-enum-told-7
-enum-told-7 c = search needs
-
-enum-told-8 : tie.Need-enum-told-8
-enum-told-8 c = search needs
-
-bad-set-requires : tie.Need-bad-set-requires
-bad-set-requires c κs = search needs
-
-enum-told-9 : tie.Need-enum-told-9
-enum-told-9 c = search needs
-
 returns : tie.Need-returns
 unfolding outOfRange
 returns c = rw (c .before .enum-told .given .1, c .within .ensures)
@@ -89,21 +44,21 @@ pub out-of-range-spec : {M : Type 1} → statement M
 out-of-range-spec =
     tie.close
     (tie.spec
-    enum-told
-    within-requires
-    enum-told-2
-    bad-register-requires
-    enum-told-3
-    bad-count-requires
-    enum-told-4
-    bad-mask-requires
-    enum-told-5
-    within-requires-2
-    enum-told-6
-    enum-told-7
-    enum-told-8
-    bad-set-requires
-    enum-told-9
+    (λ c. search needs)
+    (λ c κs. search needs)
+    (λ c. search needs)
+    (λ c κs. search needs)
+    (λ c. search needs)
+    (λ c κs. search needs)
+    (λ c. search needs)
+    (λ c κs. search needs)
+    (λ c. search needs)
+    (λ c κs. search needs)
+    (λ c. search needs)
+    (λ c. search needs)
+    (λ c. search needs)
+    (λ c κs. search needs)
+    (λ c. search needs)
     returns
     returns-2
     returns-3

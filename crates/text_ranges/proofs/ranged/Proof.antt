@@ -4,21 +4,6 @@ use Rattle.text_ranges.proofs.ranged.Statement.{statement}
 use Rattle.text_ranges.proofs.ranged.Tie as tie
 use Rattle.text_ranges.specs.Ranges.{ranged}
 
-enum-known-said : tie.Need-enum-known-said
-enum-known-said c = search needs
-
-tested-requires : tie.Need-tested-requires
-tested-requires c κs = search needs
-
-enum-known-said-2 : tie.Need-enum-known-said-2
-enum-known-said-2 c = search needs
-
-tested-requires-2 : tie.Need-tested-requires-2
-tested-requires-2 c κs = search needs
-
-enum-known-said-3 : tie.Need-enum-known-said-3
-enum-known-said-3 c = search needs
-
 returns : tie.Need-returns
 unfolding ranged
 returns c = rw (c .before .before .said .given .1) (c .tested .ensures)
@@ -35,11 +20,11 @@ pub ranged-spec : {M : Type 1} → statement M
 ranged-spec =
     tie.close
     (tie.spec
-    enum-known-said
-    tested-requires
-    enum-known-said-2
-    tested-requires-2
-    enum-known-said-3
+    (λ c. search needs)
+    (λ c κs. search needs)
+    (λ c. search needs)
+    (λ c κs. search needs)
+    (λ c. search needs)
     returns
     returns-2
     returns-3)

@@ -7,17 +7,8 @@ use borrow.Author.Tests.{not-true, not-false}
 use Rattle.text_lines.specs.declared.Line.the-variants.{Refused}
 use Rattle.text_ranges.proofs.Ranging.{tested-other, tested-beyond, tested-right}
 
-same-requires : tie.Need-same-requires
-same-requires c κs = search needs
-
 returns : tie.Need-returns
 returns c = sym (tested-other _ _ _ _ (sym (c .before .same .ensures) ∙ not-true _ (c .if1 .taken)))
-
-out-of-range-requires : tie.Need-out-of-range-requires
-out-of-range-requires c κs = search needs
-
-range-cause-requires : tie.Need-range-cause-requires
-range-cause-requires c κs = search needs
 
 returns-2 : tie.Need-returns-2
 returns-2 c =
@@ -34,4 +25,4 @@ returns-3 c =
 pub tested-spec : {M : Type 1} → statement M
 tested-spec =
     tie.close
-    (tie.spec same-requires returns out-of-range-requires range-cause-requires returns-2 returns-3)
+    (tie.spec (λ c κs. search needs) returns (λ c κs. search needs) (λ c κs. search needs) returns-2 returns-3)

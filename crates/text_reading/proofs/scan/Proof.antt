@@ -22,9 +22,6 @@ loop-holds c = left-start _ _ _
 line-end-requires : tie.Need-line-end-requires Inv-loop μ-loop
 line-end-requires c κs = omega arith
 
-refused-at-requires : tie.Need-refused-at-requires Inv-loop μ-loop
-refused-at-requires c κs = search needs
-
 same-length : tie.Need-same-length Inv-loop μ-loop
 same-length c = let l = c .before .before .before .before in left-long _ _ _ _ _ _ _ (l .loop .inv) .heads
 
@@ -54,21 +51,6 @@ part-saying-start c = omega arith
 part-saying-end : tie.Need-part-saying-end Inv-loop μ-loop
 part-saying-end c = omega arith
 
-saying-requires : tie.Need-saying-requires Inv-loop μ-loop
-saying-requires c κs = search needs
-
-take-apart-requires : tie.Need-take-apart-requires Inv-loop μ-loop
-take-apart-requires c κs = search needs
-
-enum-known-entry : tie.Need-enum-known-entry Inv-loop μ-loop
-enum-known-entry c = search needs
-
-enum-told : tie.Need-enum-told Inv-loop μ-loop
-enum-told c = search needs
-
-refusal-of-line-requires : tie.Need-refusal-of-line-requires Inv-loop μ-loop
-refusal-of-line-requires c κs = search needs
-
 same-length-6 : tie.Need-same-length-6 Inv-loop μ-loop
 same-length-6 c = let l = c .before .before .before .before .before .before .before .before .before in left-long _ _ _ _ _ _ _ (l .loop .inv) .heads
 
@@ -90,9 +72,6 @@ returns-2 c =
     let e = s .before .before in
     let l = e .before .before .before in
     rw (c .refusal-of-line .ensures) (left-refused _ _ _ _ _ _ _ (l .loop .inv) _ (e .before .line-end .ensures) (e .if1 .left) _ (s .saying .ensures) (sym (c .before .before .before .take-apart .ensures) ∙ c .before .enum-told .given .1))
-
-keep-requires : tie.Need-keep-requires Inv-loop μ-loop
-keep-requires c κs = search needs
 
 moved-requires : tie.Need-moved-requires Inv-loop μ-loop
 moved-requires c κs =
@@ -140,9 +119,6 @@ loop-again c =
     let g = left-step _ _ _ _ _ _ _ (l .loop .inv) _ (e .before .line-end .ensures) (e .if1 .left) _ (s .saying .ensures) _ (sym (t .before .before .take-apart .ensures) ∙ t .entry .given .1) in
     rw (c .moved .ensures, k .keep .ensures .0, k .keep .ensures .1 .0, k .keep .ensures .1 .1 .0, k .keep .ensures .1 .1 .1 .0, k .keep .ensures .1 .1 .1 .1) g
 
-end-of-requires : tie.Need-end-of-requires Inv-loop μ-loop
-end-of-requires c κs = search needs
-
 same-length-11 : tie.Need-same-length-11 Inv-loop μ-loop
 same-length-11 c = let l = c .before .before in left-long _ _ _ _ _ _ _ (l .loop .inv) .heads
 
@@ -171,7 +147,7 @@ scan-spec =
     μ-loop
     loop-holds
     line-end-requires
-    refused-at-requires
+    (λ c κs. search needs)
     same-length
     same-length-2
     same-length-3
@@ -181,24 +157,24 @@ scan-spec =
     sub-saying
     part-saying-start
     part-saying-end
-    saying-requires
-    take-apart-requires
-    enum-known-entry
-    enum-told
-    refusal-of-line-requires
+    (λ c κs. search needs)
+    (λ c κs. search needs)
+    (λ c. search needs)
+    (λ c. search needs)
+    (λ c κs. search needs)
     same-length-6
     same-length-7
     same-length-8
     same-length-9
     same-length-10
     returns-2
-    keep-requires
+    (λ c κs. search needs)
     moved-requires
     add-at
     add-n
     loop-less
     loop-again
-    end-of-requires
+    (λ c κs. search needs)
     same-length-11
     same-length-12
     same-length-13

@@ -4,12 +4,6 @@ use Rattle.text_replies.proofs.bytes_of.Statement.{statement}
 use Rattle.text_replies.proofs.bytes_of.Tie as tie
 use Rattle.text_replies.specs.Calls.{bytesOf}
 
-enum-known-written : tie.Need-enum-known-written
-enum-known-written c = search needs
-
-enum-told : tie.Need-enum-told
-enum-told c = search needs
-
 returns : tie.Need-returns
 unfolding bytesOf
 returns c = rw (c .before .written .given .1)
@@ -19,4 +13,4 @@ unfolding bytesOf
 returns-2 c = rw (c .enum-told .given .1)
 
 pub bytes-of-spec : {M : Type 1} → statement M
-bytes-of-spec = tie.close (tie.spec enum-known-written enum-told returns returns-2)
+bytes-of-spec = tie.close (tie.spec (λ c. search needs) (λ c. search needs) returns returns-2)

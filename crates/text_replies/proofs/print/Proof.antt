@@ -5,24 +5,9 @@ use Rattle.text_replies.proofs.print.Tie as tie
 use mathlib.Core.Path.{refl, ap, _∙_}
 use Rattle.text_replies.specs.Calls.{bytesOf, shown}
 
-enum-known-answer : tie.Need-enum-known-answer
-enum-known-answer c = search needs
-
-enum-known-answer-2 : tie.Need-enum-known-answer-2
-enum-known-answer-2 c = search needs
-
-write-refusal-requires : tie.Need-write-refusal-requires
-write-refusal-requires c κs = search needs
-
-bytes-of-requires : tie.Need-bytes-of-requires
-bytes-of-requires c κs = search needs
-
 returns : tie.Need-returns
 unfolding shown
 returns c = rw (c .before .answer .given .1) (refl, refl)
-
-same-length : tie.Need-same-length
-same-length c = search needs
 
 returns-2 : tie.Need-returns-2
 unfolding shown
@@ -34,10 +19,10 @@ pub print-spec : {M : Type 1} → statement M
 print-spec =
     tie.close
     (tie.spec
-    enum-known-answer
-    enum-known-answer-2
-    write-refusal-requires
-    bytes-of-requires
+    (λ c. search needs)
+    (λ c. search needs)
+    (λ c κs. search needs)
+    (λ c κs. search needs)
     returns
-    same-length
+    (λ c. search needs)
     returns-2)

@@ -6,12 +6,6 @@ use mathlib.Core.Path.{sym, ap, _∙_}
 use Rattle.text_taken.specs.declared.Scanned.the-variants.{Refused}
 use Rattle.text_taken.proofs.Ending.{end-whole, end-early}
 
-is-item-requires : tie.Need-is-item-requires
-is-item-requires c κs = search needs
-
-refused-at-requires : tie.Need-refused-at-requires
-refused-at-requires c κs = search needs
-
 returns : tie.Need-returns
 returns c = sym (end-whole _ _ (sym (c .before .is-item .ensures) ∙ c .if1 .taken))
 
@@ -21,4 +15,4 @@ returns-2 c =
     ap Refused (c .refused-at .ensures) ∙ sym (end-early _ _ (sym (e .before .is-item .ensures) ∙ e .if1 .left))
 
 pub end-of-spec : {M : Type 1} → statement M
-end-of-spec = tie.close (tie.spec is-item-requires refused-at-requires returns returns-2)
+end-of-spec = tie.close (tie.spec (λ c κs. search needs) (λ c κs. search needs) returns returns-2)

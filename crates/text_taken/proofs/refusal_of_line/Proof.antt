@@ -4,24 +4,6 @@ use Rattle.text_taken.proofs.refusal_of_line.Statement.{statement}
 use Rattle.text_taken.proofs.refusal_of_line.Tie as tie
 use Rattle.text_taken.specs.Taking.{refusalOfLine}
 
-enum-told : tie.Need-enum-told
-enum-told c = search needs
-
-refused-at-requires : tie.Need-refused-at-requires
-refused-at-requires c κs = search needs
-
-enum-told-2 : tie.Need-enum-told-2
-enum-told-2 c = search needs
-
-refused-at-requires-2 : tie.Need-refused-at-requires-2
-refused-at-requires-2 c κs = search needs
-
-enum-known-line : tie.Need-enum-known-line
-enum-known-line c = search needs
-
-refused-at-requires-3 : tie.Need-refused-at-requires-3
-refused-at-requires-3 c κs = search needs
-
 returns : tie.Need-returns
 unfolding refusalOfLine
 returns c = rw (c .before .enum-told .given .1) (c .refused-at .ensures)
@@ -38,12 +20,12 @@ pub refusal-of-line-spec : {M : Type 1} → statement M
 refusal-of-line-spec =
     tie.close
     (tie.spec
-    enum-told
-    refused-at-requires
-    enum-told-2
-    refused-at-requires-2
-    enum-known-line
-    refused-at-requires-3
+    (λ c. search needs)
+    (λ c κs. search needs)
+    (λ c. search needs)
+    (λ c κs. search needs)
+    (λ c. search needs)
+    (λ c κs. search needs)
     returns
     returns-2
     returns-3)

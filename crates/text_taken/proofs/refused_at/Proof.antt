@@ -4,21 +4,6 @@ use Rattle.text_taken.proofs.refused_at.Statement.{statement}
 use Rattle.text_taken.proofs.refused_at.Tie as tie
 use Rattle.text_taken.specs.Taking.{causeOf, refusedAt}
 
-enum-told : tie.Need-enum-told
-enum-told c = search needs
-
-enum-told-2 : tie.Need-enum-told-2
-enum-told-2 c = search needs
-
-enum-told-3 : tie.Need-enum-told-3
-enum-told-3 c = search needs
-
-enum-told-4 : tie.Need-enum-told-4
-enum-told-4 c = search needs
-
-enum-told-5 : tie.Need-enum-told-5
-enum-told-5 c = search needs
-
 returns : tie.Need-returns
 unfolding refusedAt causeOf
 returns c = rw (c .enum-told .given .1)
@@ -43,11 +28,11 @@ pub refused-at-spec : {M : Type 1} → statement M
 refused-at-spec =
     tie.close
     (tie.spec
-    enum-told
-    enum-told-2
-    enum-told-3
-    enum-told-4
-    enum-told-5
+    (λ c. search needs)
+    (λ c. search needs)
+    (λ c. search needs)
+    (λ c. search needs)
+    (λ c. search needs)
     returns
     returns-2
     returns-3

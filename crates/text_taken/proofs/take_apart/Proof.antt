@@ -4,15 +4,6 @@ use Rattle.text_taken.proofs.take_apart.Statement.{statement}
 use Rattle.text_taken.proofs.take_apart.Tie as tie
 use Rattle.text_taken.specs.Taking.{takenOf}
 
-enum-known-line : tie.Need-enum-known-line
-enum-known-line c = search needs
-
-enum-known-line-2 : tie.Need-enum-known-line-2
-enum-known-line-2 c = search needs
-
-enum-told : tie.Need-enum-told
-enum-told c = search needs
-
 returns : tie.Need-returns
 unfolding takenOf
 returns c = rw (c .before .line .given .1)
@@ -27,4 +18,4 @@ returns-3 c = rw (c .enum-told .given .1)
 
 pub take-apart-spec : {M : Type 1} → statement M
 take-apart-spec =
-    tie.close (tie.spec enum-known-line enum-known-line-2 enum-told returns returns-2 returns-3)
+    tie.close (tie.spec (λ c. search needs) (λ c. search needs) (λ c. search needs) returns returns-2 returns-3)

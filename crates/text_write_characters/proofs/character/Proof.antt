@@ -8,12 +8,6 @@ use borrow.Author.Needs.{needs}
 use Rattle.text_write_characters.proofs.character.Statement.{statement}
 use Rattle.text_write_characters.proofs.character.Tie as tie
 
-cast-result : tie.Need-cast-result
-cast-result c = search needs
-
-add-result : tie.Need-add-result
-add-result c = search needs
-
 returns : tie.Need-returns
 unfolding character
 returns c = search needs
@@ -22,4 +16,4 @@ returns-2 : tie.Need-returns-2
 returns-2 c = add-comm _ _ ∙ sym (character-specified _ _ (c .if1 .left))
 
 pub character-spec : {M : Type 1} → statement M
-character-spec = tie.close (tie.spec cast-result add-result returns returns-2)
+character-spec = tie.close (tie.spec (λ c. search needs) (λ c. search needs) returns returns-2)

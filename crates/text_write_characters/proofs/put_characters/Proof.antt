@@ -25,9 +25,6 @@ add-put-byte c = omega arith
 character-requires : tie.Need-character-requires Inv-loop μ-loop
 character-requires c κs = omega arith
 
-put-byte-requires : tie.Need-put-byte-requires Inv-loop μ-loop
-put-byte-requires c κs = search needs
-
 add-i : tie.Need-add-i Inv-loop μ-loop
 add-i c = omega arith
 
@@ -60,7 +57,7 @@ put-characters-spec =
     loop-holds
     add-put-byte
     character-requires
-    put-byte-requires
+    (λ c κs. search needs)
     add-i
     loop-less
     loop-again

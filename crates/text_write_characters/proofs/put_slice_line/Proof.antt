@@ -14,14 +14,8 @@ put-requires c κs = let a = c .before .before .before .args in omega (arith, sl
 put-characters-requires : tie.Need-put-characters-requires
 put-characters-requires c κs = let a = c .before .before .before .before .before .before .before .args in omega (arith, slice-length (a .chains) (a .key .now) (a .slice))
 
-slice-aggregate-put : tie.Need-slice-aggregate-put
-slice-aggregate-put c = search needs
-
 put-requires-2 : tie.Need-put-requires-2
 put-requires-2 c κs = let a = c .before .before .before .before .before .before .before .before .before .before .before .before .args in omega (arith, characters-length (a .chains) (a .slice), slice-length (a .chains) (a .key .now) (a .slice))
-
-same-length : tie.Need-same-length
-same-length c = search needs
 
 returns : tie.Need-returns
 unfolding sliceLine
@@ -33,7 +27,7 @@ put-slice-line-spec =
     (tie.spec
     put-requires
     put-characters-requires
-    slice-aggregate-put
+    (λ c. search needs)
     put-requires-2
-    same-length
+    (λ c. search needs)
     returns)

@@ -9,32 +9,17 @@ use borrow.Author.Needs.{needs}
 use Rattle.text_write_list.proofs.put_head.Statement.{statement}
 use Rattle.text_write_list.proofs.put_head.Tie as tie
 
-slice-aggregate-put-number-line : tie.Need-slice-aggregate-put-number-line
-slice-aggregate-put-number-line c = search needs
-
 put-number-line-requires : tie.Need-put-number-line-requires
 put-number-line-requires c κs = let a = c .before .before .before .before .args in (omega arith, omega arith, omega (arith, head-parts (a .settings) (a .masks .now)))
-
-slice-aggregate-put-number-line-2 : tie.Need-slice-aggregate-put-number-line-2
-slice-aggregate-put-number-line-2 c = search needs
 
 put-number-line-requires-2 : tie.Need-put-number-line-requires-2
 put-number-line-requires-2 c κs = let a = c .before .before .before .before .before .before .before .before .before .args in (omega arith, omega arith, omega (arith, head-parts (a .settings) (a .masks .now)))
 
-slice-aggregate-put-number-line-3 : tie.Need-slice-aggregate-put-number-line-3
-slice-aggregate-put-number-line-3 c = search needs
-
 put-number-line-requires-3 : tie.Need-put-number-line-requires-3
 put-number-line-requires-3 c κs = let a = c .before .before .before .before .before .before .before .before .before .before .before .before .before .before .args in (omega arith, omega arith, omega (arith, head-parts (a .settings) (a .masks .now)))
 
-slice-aggregate-put-number-lines : tie.Need-slice-aggregate-put-number-lines
-slice-aggregate-put-number-lines c = search needs
-
 put-number-lines-requires : tie.Need-put-number-lines-requires
 put-number-lines-requires c κs = let a = c .before .before .before .before .before .before .before .before .before .before .before .before .before .before .before .before .before .before .before .args in (omega arith, omega arith, omega (arith, head-parts (a .settings) (a .masks .now)))
-
-same-length : tie.Need-same-length
-same-length c = search needs
 
 returns : tie.Need-returns
 unfolding headText name
@@ -44,13 +29,13 @@ pub put-head-spec : {M : Type 1} → statement M
 put-head-spec =
     tie.close
     (tie.spec
-    slice-aggregate-put-number-line
+    (λ c. search needs)
     put-number-line-requires
-    slice-aggregate-put-number-line-2
+    (λ c. search needs)
     put-number-line-requires-2
-    slice-aggregate-put-number-line-3
+    (λ c. search needs)
     put-number-line-requires-3
-    slice-aggregate-put-number-lines
+    (λ c. search needs)
     put-number-lines-requires
-    same-length
+    (λ c. search needs)
     returns)

@@ -7,9 +7,6 @@ use borrow.Author.Needs.{needs}
 use Rattle.text_write_list.proofs.write_list.Statement.{statement}
 use Rattle.text_write_list.proofs.write_list.Tie as tie
 
-slice-aggregate-put-list : tie.Need-slice-aggregate-put-list
-slice-aggregate-put-list c = search needs
-
 put-list-requires : tie.Need-put-list-requires
 put-list-requires c κs =
     let s = c .before .before .before .before in
@@ -19,12 +16,6 @@ put-list-requires c κs =
 returns : tie.Need-returns
 returns c = filled-short (c .before .before .put-list .ensures) _ (c .if1 .taken)
 
-put-list-requires-2 : tie.Need-put-list-requires-2
-put-list-requires-2 c κs = search needs
-
-same-length : tie.Need-same-length
-same-length c = search needs
-
 returns-2 : tie.Need-returns-2
 returns-2 c = filled (c .before .before .before .before .before .before .put-list .ensures) _ (c .before .before .before .before .if1 .left) (c .before .before .put-list2 .ensures)
 
@@ -32,9 +23,9 @@ pub write-list-spec : {M : Type 1} → statement M
 write-list-spec =
     tie.close
     (tie.spec
-    slice-aggregate-put-list
+    (λ c. search needs)
     put-list-requires
     returns
-    put-list-requires-2
-    same-length
+    (λ c κs. search needs)
+    (λ c. search needs)
     returns-2)

@@ -6,28 +6,10 @@ use borrow.Author.Needs.{needs}
 use Rattle.text_write_numbers.proofs.put_number.Statement.{statement}
 use Rattle.text_write_numbers.proofs.put_number.Tie as tie
 
-slice-aggregate-numeral : tie.Need-slice-aggregate-numeral
-slice-aggregate-numeral c = search needs
-
-numeral-requires : tie.Need-numeral-requires
-numeral-requires c κs = search needs
-
-sub-put : tie.Need-sub-put
-sub-put c = search needs
-
-part-put-start : tie.Need-part-put-start
-part-put-start c = search needs
-
-part-put-end : tie.Need-part-put-end
-part-put-end c = search needs
-
 put-requires : tie.Need-put-requires
 put-requires c κs =
     let s = c .before .before .before .before .numeral in
     rw (digits-taken (s .last .1 .1 .0) (s .result) (s .kept .1 .1 .0) ∙ s .ensures .1) (c .before .before .before .before .before .before .before .pre .2)
-
-same-length : tie.Need-same-length
-same-length c = search needs
 
 returns : tie.Need-returns
 returns c =
@@ -38,11 +20,11 @@ pub put-number-spec : {M : Type 1} → statement M
 put-number-spec =
     tie.close
     (tie.spec
-    slice-aggregate-numeral
-    numeral-requires
-    sub-put
-    part-put-start
-    part-put-end
+    (λ c. search needs)
+    (λ c κs. search needs)
+    (λ c. search needs)
+    (λ c. search needs)
+    (λ c. search needs)
     put-requires
-    same-length
+    (λ c. search needs)
     returns)

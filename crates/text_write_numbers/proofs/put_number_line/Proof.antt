@@ -17,14 +17,8 @@ put-number-requires c κs =
     let a = s .args in
     (s .pre .0, s .pre .1, omega (arith, line-parts (a .base) (a .key .now) (a .n)))
 
-slice-aggregate-put : tie.Need-slice-aggregate-put
-slice-aggregate-put c = search needs
-
 put-requires-2 : tie.Need-put-requires-2
 put-requires-2 c κs = let a = c .before .before .before .before .before .before .before .before .before .before .before .before .args in omega (arith, line-parts (a .base) (a .key .now) (a .n))
-
-same-length : tie.Need-same-length
-same-length c = search needs
 
 returns : tie.Need-returns
 unfolding numberLine
@@ -36,7 +30,7 @@ put-number-line-spec =
     (tie.spec
     put-requires
     put-number-requires
-    slice-aggregate-put
+    (λ c. search needs)
     put-requires-2
-    same-length
+    (λ c. search needs)
     returns)

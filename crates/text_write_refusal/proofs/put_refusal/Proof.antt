@@ -8,20 +8,11 @@ use borrow.Author.Needs.{needs}
 use Rattle.text_write_refusal.proofs.put_refusal.Statement.{statement}
 use Rattle.text_write_refusal.proofs.put_refusal.Tie as tie
 
-slice-aggregate-put-number-line : tie.Need-slice-aggregate-put-number-line
-slice-aggregate-put-number-line c = search needs
-
 put-number-line-requires : tie.Need-put-number-line-requires
 put-number-line-requires c κs = (omega arith, omega arith, omega (arith, refusal-parts (c .before .before .before .args .refusal)))
 
-slice-aggregate-put-number-line-2 : tie.Need-slice-aggregate-put-number-line-2
-slice-aggregate-put-number-line-2 c = search needs
-
 put-number-line-requires-2 : tie.Need-put-number-line-requires-2
 put-number-line-requires-2 c κs = (omega arith, omega arith, omega (arith, refusal-parts (c .before .before .before .before .before .before .before .before .args .refusal)))
-
-same-length : tie.Need-same-length
-same-length c = search needs
 
 returns : tie.Need-returns
 unfolding refusedText
@@ -31,9 +22,9 @@ pub put-refusal-spec : {M : Type 1} → statement M
 put-refusal-spec =
     tie.close
     (tie.spec
-    slice-aggregate-put-number-line
+    (λ c. search needs)
     put-number-line-requires
-    slice-aggregate-put-number-line-2
+    (λ c. search needs)
     put-number-line-requires-2
-    same-length
+    (λ c. search needs)
     returns)

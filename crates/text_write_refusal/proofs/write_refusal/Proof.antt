@@ -7,20 +7,11 @@ use borrow.Author.Needs.{needs}
 use Rattle.text_write_refusal.proofs.write_refusal.Statement.{statement}
 use Rattle.text_write_refusal.proofs.write_refusal.Tie as tie
 
-slice-aggregate-put-refusal : tie.Need-slice-aggregate-put-refusal
-slice-aggregate-put-refusal c = search needs
-
 put-refusal-requires : tie.Need-put-refusal-requires
 put-refusal-requires c κs = omega (arith, refused-length (c .before .before .args .refusal))
 
 returns : tie.Need-returns
 returns c = filled-short (c .before .before .put-refusal .ensures) _ (c .if1 .taken)
-
-put-refusal-requires-2 : tie.Need-put-refusal-requires-2
-put-refusal-requires-2 c κs = search needs
-
-same-length : tie.Need-same-length
-same-length c = search needs
 
 returns-2 : tie.Need-returns-2
 returns-2 c = filled (c .before .before .before .before .before .before .put-refusal .ensures) _ (c .before .before .before .before .if1 .left) (c .before .before .put-refusal2 .ensures)
@@ -29,9 +20,9 @@ pub write-refusal-spec : {M : Type 1} → statement M
 write-refusal-spec =
     tie.close
     (tie.spec
-    slice-aggregate-put-refusal
+    (λ c. search needs)
     put-refusal-requires
     returns
-    put-refusal-requires-2
-    same-length
+    (λ c κs. search needs)
+    (λ c. search needs)
     returns-2)

@@ -10,9 +10,6 @@ use Rattle.text_write_slices.proofs.all_chains.Tie as tie
 returns : tie.Need-returns
 returns c = rw (c .if1 .taken)
 
-shl-result : tie.Need-shl-result
-shl-result c = search needs
-
 sub-result : tie.Need-sub-result
 sub-result c = let k = c .before .args .chains in omega (arith, one-shifted k (omega arith), pow-pos k)
 
@@ -20,4 +17,4 @@ returns-2 : tie.Need-returns-2
 returns-2 c = let k = c .before .args .chains in omega (arith, one-shifted k (omega arith))
 
 pub all-chains-spec : {M : Type 1} → statement M
-all-chains-spec = tie.close (tie.spec returns shl-result sub-result returns-2)
+all-chains-spec = tie.close (tie.spec returns (λ c. search needs) sub-result returns-2)

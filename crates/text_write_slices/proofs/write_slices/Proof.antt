@@ -7,9 +7,6 @@ use borrow.Author.Needs.{needs}
 use Rattle.text_write_slices.proofs.write_slices.Statement.{statement}
 use Rattle.text_write_slices.proofs.write_slices.Tie as tie
 
-slice-aggregate-put-slice-lines : tie.Need-slice-aggregate-put-slice-lines
-slice-aggregate-put-slice-lines c = search needs
-
 put-slice-lines-requires : tie.Need-put-slice-lines-requires
 put-slice-lines-requires c κs =
     let s = c .before .before .before in
@@ -19,12 +16,6 @@ put-slice-lines-requires c κs =
 returns : tie.Need-returns
 returns c = filled-short (c .before .before .put-slice-lines .ensures) _ (c .if1 .taken)
 
-put-slice-lines-requires-2 : tie.Need-put-slice-lines-requires-2
-put-slice-lines-requires-2 c κs = search needs
-
-same-length : tie.Need-same-length
-same-length c = search needs
-
 returns-2 : tie.Need-returns-2
 returns-2 c = filled (c .before .before .before .before .before .before .put-slice-lines .ensures) _ (c .before .before .before .before .if1 .left) (c .before .before .put-slice-lines2 .ensures)
 
@@ -32,9 +23,9 @@ pub write-slices-spec : {M : Type 1} → statement M
 write-slices-spec =
     tie.close
     (tie.spec
-    slice-aggregate-put-slice-lines
+    (λ c. search needs)
     put-slice-lines-requires
     returns
-    put-slice-lines-requires-2
-    same-length
+    (λ c κs. search needs)
+    (λ c. search needs)
     returns-2)

@@ -5,12 +5,6 @@ use borrow.Author.Needs.{needs}
 use Rattle.window_fitting.proofs.close.Statement.{statement}
 use Rattle.window_fitting.proofs.close.Tie as tie
 
-meet-row-requires : tie.Need-meet-row-requires
-meet-row-requires c κs = search needs
-
-same-length : tie.Need-same-length
-same-length c = search needs
-
 returns : tie.Need-returns
 returns c =
     let a = c .before .before .before .before .before .before .before .args in
@@ -23,4 +17,4 @@ returns-2 c =
     closed-no (a .chains) (a .table .now) (a .stop) (a .slices) (a .space) (take (a .space .free) (a .vectors .now)) (a .closing) (c .if1 .left)
 
 pub close-spec : {M : Type 1} → statement M
-close-spec = tie.close (tie.spec meet-row-requires same-length returns returns-2)
+close-spec = tie.close (tie.spec (λ c κs. search needs) (λ c. search needs) returns returns-2)

@@ -21,15 +21,6 @@ loop-holds c =
     let s = c .before .before .before .before in
     (omega arith, refl, fitted-start (s .args .chains) (s .args .table .now) (paired (s .args .specified .now) (s .args .bits .now)) (s .args .space) (take (s .args .space .free) (s .args .vectors .now)))
 
-mul-t10 : tie.Need-mul-t10 Inv-loop μ-loop
-mul-t10 c = search needs
-
-shared-slice-read-t13 : tie.Need-shared-slice-read-t13 Inv-loop μ-loop
-shared-slice-read-t13 c = search needs
-
-mul-t14 : tie.Need-mul-t14 Inv-loop μ-loop
-mul-t14 c = search needs
-
 shared-slice-read-t16 : tie.Need-shared-slice-read-t16 Inv-loop μ-loop
 shared-slice-read-t16 c =
     let s = c .before .before .before .before .before .before .before .before in
@@ -43,12 +34,6 @@ meet-row-requires c κs =
     let a = s .args in
     row-asked (a .chains) (a .table .now) (a .specified .now) (a .bits .now) (s .pre .0) (s .pre .1) (i .before .loop .slice) (i .loop-test .taken)
 
-add-slice : tie.Need-add-slice Inv-loop μ-loop
-add-slice c = search needs
-
-loop-less : tie.Need-loop-less Inv-loop μ-loop
-loop-less c = search needs
-
 loop-again : tie.Need-loop-again Inv-loop μ-loop
 loop-again c =
     let i = c .before .before .before .before .before .before in
@@ -60,9 +45,6 @@ loop-again c =
       m .kept .0 ∙ l .inv .1,
       fitted-next (a .chains) (a .table .now) (a .specified .now) (a .bits .now) (s .pre .0) (a .space) (take (a .space .free) (a .vectors .now)) (l .slice) (l .kept) _ (m .result) _ (i .loop-test .taken) (l .inv .2) (m .ensures),
     )
-
-same-length : tie.Need-same-length Inv-loop μ-loop
-same-length c = search needs
 
 returns : tie.Need-returns Inv-loop μ-loop
 returns c =
@@ -78,13 +60,13 @@ fit-spec =
     Inv-loop
     μ-loop
     loop-holds
-    mul-t10
-    shared-slice-read-t13
-    mul-t14
+    (λ c. search needs)
+    (λ c. search needs)
+    (λ c. search needs)
     shared-slice-read-t16
     meet-row-requires
-    add-slice
-    loop-less
+    (λ c. search needs)
+    (λ c. search needs)
     loop-again
-    same-length
+    (λ c. search needs)
     returns)

@@ -14,17 +14,8 @@ Inv-loop pattern stops rows vectors₀ free₀ kept₀ vectors free kept = (leng
 abbrev μ-loop : tie.MeasureT-loop
 μ-loop pattern stops rows vectors₀ free₀ kept₀ vectors free kept = free
 
-force-rows-requires : tie.Need-force-rows-requires Inv-loop μ-loop
-force-rows-requires c κs = search needs
-
 loop-holds : tie.Need-loop-holds Inv-loop μ-loop
 loop-holds c = (refl, keeps-none _ _ _)
-
-force-rows-requires-2 : tie.Need-force-rows-requires-2 Inv-loop μ-loop
-force-rows-requires-2 c κs = search needs
-
-loop-less : tie.Need-loop-less Inv-loop μ-loop
-loop-less c = search needs
 
 loop-again : tie.Need-loop-again Inv-loop μ-loop
 loop-again c =
@@ -52,10 +43,10 @@ force-spec =
     (tie.spec
     Inv-loop
     μ-loop
-    force-rows-requires
+    (λ c κs. search needs)
     loop-holds
-    force-rows-requires-2
-    loop-less
+    (λ c κs. search needs)
+    (λ c. search needs)
     loop-again
     same-length
     returns)

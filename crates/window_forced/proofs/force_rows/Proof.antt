@@ -37,12 +37,6 @@ returns c =
     let o = c .before .before .before .before .force-row in
     keeps-next (a .pattern) (a .stops .now) (a .rows) (l .row) (a .space) (take (a .space .free) (a .vectors .now)) (l .kept) (l .vectors) (o .result) (o .last .1 .1 .1 .0) (c .before .before .before .before .before .before .loop-test .taken) (l .inv .2) (o .ensures)
 
-add-row : tie.Need-add-row Inv-loop μ-loop
-add-row c = search needs
-
-loop-less : tie.Need-loop-less Inv-loop μ-loop
-loop-less c = search needs
-
 loop-again : tie.Need-loop-again Inv-loop μ-loop
 loop-again c =
     let a = c .before .before .before .before .before .before .before .before .before .before .args in
@@ -66,8 +60,8 @@ force-rows-spec =
     force-row-requires
     same-length
     returns
-    add-row
-    loop-less
+    (λ c. search needs)
+    (λ c. search needs)
     loop-again
     same-length-2
     returns-2)

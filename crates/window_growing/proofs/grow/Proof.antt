@@ -20,32 +20,17 @@ Inv-loop cells table chains specified bits spaces₀ places vectors₀ kept₀ s
 abbrev μ-loop : tie.MeasureT-loop
 μ-loop cells table chains specified bits spaces₀ places vectors₀ kept₀ slice₀ spaces vectors kept slice = length specified - slice
 
-units-requires : tie.Need-units-requires Inv-loop μ-loop
-units-requires c κs = search needs
-
 loop-holds : tie.Need-loop-holds Inv-loop μ-loop
 loop-holds c =
     let s = c .before .before .before .before .before in
     let a = s .args in
     (omega arith, search needs, search needs, rw (c .units .ensures) (growing-start (a .chains) (a .table .now) (paired (a .specified .now) (a .bits .now)) (a .cells) (a .spaces .now)))
 
-mul-t14 : tie.Need-mul-t14 Inv-loop μ-loop
-mul-t14 c = search needs
-
-shared-slice-read-t17 : tie.Need-shared-slice-read-t17 Inv-loop μ-loop
-shared-slice-read-t17 c = search needs
-
-mul-t18 : tie.Need-mul-t18 Inv-loop μ-loop
-mul-t18 c = search needs
-
 shared-slice-read-t20 : tie.Need-shared-slice-read-t20 Inv-loop μ-loop
 shared-slice-read-t20 c =
     let s = c .before .before .before .before .before .before .before .before .before in
     let a = s .args in
     omega (arith, slices-equal (a .chains) (a .specified .now) (a .bits .now) (s .pre .0), c .before .before .loop-test .taken)
-
-slice-aggregate-meet-row : tie.Need-slice-aggregate-meet-row Inv-loop μ-loop
-slice-aggregate-meet-row c = search needs
 
 meet-row-requires : tie.Need-meet-row-requires Inv-loop μ-loop
 meet-row-requires c κs =
@@ -67,20 +52,11 @@ returns c =
     let f = fitted-next (a .chains) (a .table .now) (a .specified .now) (a .bits .now) (s .pre .0) (allStates (a .cells)) (unitsOf (a .cells)) (l .slice) (l .kept) (take (l .kept .free) (l .vectors)) (m .result) (take (m .result .free) (m .last .0)) (c .before .before .before .before .before .before .before .loop-test .taken) (l .inv .3 .fitted) (m .ensures) in
     grown-stop (a .chains) (a .table .now) (a .specified .now) (a .bits .now) (s .pre .0) (a .cells) (s .pre .1 .1) (length (a .spaces .now)) (l .slice) (l .kept) (take (l .kept .free) (l .vectors)) (l .spaces) (m .result) (take (m .result .free) (m .last .0)) (c .before .before .before .before .before .before .before .loop-test .taken) (l .inv .3) f (not-true (m .result .some) (c .if1 .taken))
 
-mul-store : tie.Need-mul-store Inv-loop μ-loop
-mul-store c = search needs
-
 slice-aggregate-store : tie.Need-slice-aggregate-store Inv-loop μ-loop
 slice-aggregate-store c = sym (c .before .before .before .before .before .before .meet-row .kept .0 ∙ c .before .before .before .before .before .before .before .before .before .before .before .loop .inv .1)
 
 store-requires : tie.Need-store-requires Inv-loop μ-loop
 store-requires c κs = (omega (arith, c .before .before .before .before .before .before .before .before .before .before .before .loop .inv .3 .long), c .before .before .before .before .before .before .meet-row .kept .0 ∙ c .before .before .before .before .before .before .before .before .before .before .before .loop .inv .1)
-
-add-slice : tie.Need-add-slice Inv-loop μ-loop
-add-slice c = search needs
-
-loop-less : tie.Need-loop-less Inv-loop μ-loop
-loop-less c = search needs
 
 loop-again : tie.Need-loop-again Inv-loop μ-loop
 loop-again c =
@@ -116,21 +92,21 @@ grow-spec =
     (tie.spec
     Inv-loop
     μ-loop
-    units-requires
+    (λ c κs. search needs)
     loop-holds
-    mul-t14
-    shared-slice-read-t17
-    mul-t18
+    (λ c. search needs)
+    (λ c. search needs)
+    (λ c. search needs)
     shared-slice-read-t20
-    slice-aggregate-meet-row
+    (λ c. search needs)
     meet-row-requires
     same-length
     returns
-    mul-store
+    (λ c. search needs)
     slice-aggregate-store
     store-requires
-    add-slice
-    loop-less
+    (λ c. search needs)
+    (λ c. search needs)
     loop-again
     same-length-2
     returns-2)

@@ -62,9 +62,6 @@ length-seed-requires c κs =
       ),
     )
 
-enum-known-found : tie.Need-enum-known-found Inv-loop μ-loop
-enum-known-found c = search needs
-
 returns : tie.Need-returns Inv-loop μ-loop
 returns c =
     let s = c .before .before .before .before .before .before .before .before .before .before .before .before .before .before .before .before .before .before in
@@ -75,15 +72,6 @@ returns c =
     let e : j .closing ≡ (a .sought .closing || ltb (l .slices) (length (a .specified .now))) = ⊎-elim (λ v. rw (v .1, v .0 .taken)) (λ v. rw (v .1, v .0 .left)) (j .came) in
     let t = tried (a .sought .settings) (a .masks .now) (a .sought .stop) (a .sought .pattern) (a .table .now) (a .stops .now) (a .specified .now) (a .bits .now) (s .pre .0) (s .pre .1 .0) (a .sought .closing) (l .slices) (j .closing) e in
     reach-found (machine (a .sought .settings) (a .masks .now)) (a .sought .stop) (a .sought .closing) (paired (a .specified .now) (a .bits .now)) (l .slices) _ (c .before .before .before .before .before .before .before .loop-test .taken) (l .inv .1) (sym t ∙ state-some _ _ (sym (f .ensures) ∙ c .before .found .given .1))
-
-enum-told : tie.Need-enum-told Inv-loop μ-loop
-enum-told c = search needs
-
-sub-slices : tie.Need-sub-slices Inv-loop μ-loop
-sub-slices c = search needs
-
-loop-less : tie.Need-loop-less Inv-loop μ-loop
-loop-less c = search needs
 
 loop-again : tie.Need-loop-again Inv-loop μ-loop
 loop-again c =
@@ -112,10 +100,10 @@ descend-spec =
     slice-aggregate-length-seed
     slice-aggregate-length-seed-2
     length-seed-requires
-    enum-known-found
+    (λ c. search needs)
     returns
-    enum-told
-    sub-slices
-    loop-less
+    (λ c. search needs)
+    (λ c. search needs)
+    (λ c. search needs)
     loop-again
     returns-2)

@@ -27,20 +27,8 @@ most-quiet-requires c κs =
 slice-aggregate-reach-with : tie.Need-slice-aggregate-reach-with
 slice-aggregate-reach-with c = sym (length-replicate {A = ℕ} _ 0)
 
-reach-with-requires : tie.Need-reach-with-requires
-reach-with-requires c κs = search needs
-
-returns : tie.Need-returns
-returns c = search needs
-
 slice-aggregate-reach-with-2 : tie.Need-slice-aggregate-reach-with-2
 slice-aggregate-reach-with-2 c = sym (length-replicate {A = ℕ} _ 0)
-
-reach-with-requires-2 : tie.Need-reach-with-requires-2
-reach-with-requires-2 c κs = search needs
-
-returns-2 : tie.Need-returns-2
-returns-2 c = search needs
 
 pub reach-spec : {M : Type 1} → statement M
 reach-spec =
@@ -48,8 +36,8 @@ reach-spec =
     (tie.spec
     most-quiet-requires
     slice-aggregate-reach-with
-    reach-with-requires
-    returns
+    (λ c κs. search needs)
+    (λ c. search needs)
     slice-aggregate-reach-with-2
-    reach-with-requires-2
-    returns-2)
+    (λ c κs. search needs)
+    (λ c. search needs))

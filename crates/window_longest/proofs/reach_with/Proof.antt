@@ -42,12 +42,6 @@ descend-requires c κs =
     let g = c .before .before .before .grow in
     (s .pre .0, (s .pre .1 .0, grown-part (length (a .masks .now)) (a .table .now) (a .sought .pattern) (a .stops .now) (a .specified .now) (a .bits .now) (s .pre .1 .0) (a .sought .settings .cells) _ (a .quiet) (g .result) (s .pre .1 .1) (g .ensures)))
 
-same-length : tie.Need-same-length
-same-length c = search needs
-
-returns : tie.Need-returns
-returns c = search needs
-
 pub reach-with-spec : {M : Type 1} → statement M
 reach-with-spec =
     tie.close
@@ -56,5 +50,5 @@ reach-with-spec =
     slice-aggregate-grow-2
     grow-requires
     descend-requires
-    same-length
-    returns)
+    (λ c. search needs)
+    (λ c. search needs))

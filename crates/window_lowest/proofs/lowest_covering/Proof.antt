@@ -14,9 +14,6 @@ use borrow.Author.Needs.{needs}
 use Rattle.window_lowest.proofs.lowest_covering.Statement.{statement}
 use Rattle.window_lowest.proofs.lowest_covering.Tie as tie
 
-slice-aggregate-close : tie.Need-slice-aggregate-close
-slice-aggregate-close c = search needs
-
 close-requires : tie.Need-close-requires
 close-requires c κs =
     let s = c .before .before .before .before .before .before in
@@ -30,9 +27,6 @@ returns c =
     let x = c .before .before .before .close in
     let us = take (x .result .free) (x .last .0) in
     sym (ap foundOf (seed-none (a .sought .settings) (a .masks .now) (a .sought .stop) (a .sought .pattern) (a .table .now) (a .stops .now) (a .specified .now) (a .bits .now) (s .pre .0) (s .pre .1 .0) (a .sought .closing) (a .space) (take (a .space .free) (a .vectors)) (s .pre .1 .1) (x .result) us (x .ensures) (x .result) us (keeps-none _ (x .result) us) (not-true (x .result .some) (c .if1 .taken))))
-
-slice-aggregate-force : tie.Need-slice-aggregate-force
-slice-aggregate-force c = search needs
 
 force-requires : tie.Need-force-requires
 force-requires c κs =
@@ -77,10 +71,10 @@ pub lowest-covering-spec : {M : Type 1} → statement M
 lowest-covering-spec =
     tie.close
     (tie.spec
-    slice-aggregate-close
+    (λ c. search needs)
     close-requires
     returns
-    slice-aggregate-force
+    (λ c. search needs)
     force-requires
     returns-2
     lowest-clear-requires

@@ -21,23 +21,11 @@ Inv-loop cells pattern table stops chains specified bits vectors₀ kept₀ slic
 abbrev μ-loop : tie.MeasureT-loop
 μ-loop cells pattern table stops chains specified bits vectors₀ kept₀ slice₀ vectors kept slice = length specified - slice
 
-units-requires : tie.Need-units-requires Inv-loop μ-loop
-units-requires c κs = search needs
-
 loop-holds : tie.Need-loop-holds Inv-loop μ-loop
 loop-holds c =
     let s = c .before .before .before .before .before in
     let a = s .args in
     (omega arith, search needs, rw (c .units .ensures) (quiet-start (a .chains) (a .table .now) (a .pattern) (a .stops .now) (a .specified .now) (a .bits .now) (s .pre .0) (a .cells) (s .pre .1 .1 .0)))
-
-mul-t13 : tie.Need-mul-t13 Inv-loop μ-loop
-mul-t13 c = search needs
-
-shared-slice-read-t16 : tie.Need-shared-slice-read-t16 Inv-loop μ-loop
-shared-slice-read-t16 c = search needs
-
-mul-t17 : tie.Need-mul-t17 Inv-loop μ-loop
-mul-t17 c = search needs
 
 shared-slice-read-t19 : tie.Need-shared-slice-read-t19 Inv-loop μ-loop
 shared-slice-read-t19 c =
@@ -78,9 +66,6 @@ returns c =
 add-slice : tie.Need-add-slice Inv-loop μ-loop
 add-slice c = let t = c .before .before .before .before .before .before .before .before .before .before .loop-test .taken in let g = c .before .before .before .before .before .before .before .before .before .before .before .before .before .before .before .before .before .good .1 .1 .1 .1 .1 .0 .0 in search needs
 
-loop-less : tie.Need-loop-less Inv-loop μ-loop
-loop-less c = search needs
-
 loop-again : tie.Need-loop-again Inv-loop μ-loop
 loop-again c =
     let s = c .before .before .before .before .before .before .before .before .before .before .before .before .before .before .before .before .before in
@@ -105,11 +90,11 @@ most-quiet-spec =
     (tie.spec
     Inv-loop
     μ-loop
-    units-requires
+    (λ c κs. search needs)
     loop-holds
-    mul-t13
-    shared-slice-read-t16
-    mul-t17
+    (λ c. search needs)
+    (λ c. search needs)
+    (λ c. search needs)
     shared-slice-read-t19
     slice-aggregate-meet-row
     meet-row-requires
@@ -117,6 +102,6 @@ most-quiet-spec =
     force-row-requires
     returns
     add-slice
-    loop-less
+    (λ c. search needs)
     loop-again
     returns-2)

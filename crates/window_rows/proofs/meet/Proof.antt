@@ -40,18 +40,12 @@ shared-slice-read-restrict c =
     let i = c .before .before .before in
     left-chain (length (i .before .before .before .before .args .row .now)) (i .before .loop .chain) (i .before .loop .left) (i .before .loop .inv .0) (i .loop-test .taken)
 
-restrict-requires : tie.Need-restrict-requires Inv-loop μ-loop
-restrict-requires c κs = search needs
-
 add-chain : tie.Need-add-chain Inv-loop μ-loop
 add-chain c =
     let i = c .before in
     let r = i .before .before .before .before .args .row .now in
     let h = left-chain (length r) (i .before .loop .chain) (i .before .loop .left) (i .before .loop .inv .0) (i .loop-test .taken) in
     search needs
-
-loop-less : tie.Need-loop-less Inv-loop μ-loop
-loop-less c = search needs
 
 loop-again : tie.Need-loop-again Inv-loop μ-loop
 loop-again c =
@@ -72,9 +66,6 @@ loop-again c =
           (c .if1 .came),
     )
 
-same-length : tie.Need-same-length Inv-loop μ-loop
-same-length c = search needs
-
 returns : tie.Need-returns Inv-loop μ-loop
 returns c =
     let s = c .before .before .before .before in
@@ -90,9 +81,9 @@ meet-spec =
     loop-holds
     mul-restrict
     shared-slice-read-restrict
-    restrict-requires
+    (λ c κs. search needs)
     add-chain
-    loop-less
+    (λ c. search needs)
     loop-again
-    same-length
+    (λ c. search needs)
     returns)

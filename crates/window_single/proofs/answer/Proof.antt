@@ -5,12 +5,6 @@ use Rattle.window_single.proofs.Answering.{answered-lowest, answered-no
 use Rattle.window_single.proofs.answer.Statement.{statement}
 use Rattle.window_single.proofs.answer.Tie as tie
 
-enum-known-found : tie.Need-enum-known-found
-enum-known-found c = search needs
-
-enum-told : tie.Need-enum-told
-enum-told c = search needs
-
 returns : tie.Need-returns
 returns c = λ o e. answered-lowest _ o (sym (c .before .found .given .1) ∙ e)
 
@@ -18,4 +12,4 @@ returns-2 : tie.Need-returns-2
 returns-2 c = λ o e. answered-none o (sym (c .enum-told .given .1) ∙ e)
 
 pub answer-spec : {M : Type 1} → statement M
-answer-spec = tie.close (tie.spec enum-known-found enum-told returns returns-2)
+answer-spec = tie.close (tie.spec (λ c. search needs) (λ c. search needs) returns returns-2)

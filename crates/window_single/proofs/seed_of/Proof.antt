@@ -6,16 +6,10 @@ use native.Mathlib.Numerals.{add-one}
 use lib.ListN.{length}
 use borrow.Author.Needs.{needs}
 use Rattle.refusal_lengths.proofs.Lengths.{window-within}
-use Rattle.refusal_checks.proofs.Stopped.{window-formed}
+use Rattle.refusal_checks.proofs.Formed.{window-formed}
 use Rattle.window_tables.proofs.Tables.{table-room, tables-filled}
 use Rattle.window_single.proofs.seed_of.Statement.{statement}
 use Rattle.window_single.proofs.seed_of.Tie as tie
-
-add-rows : tie.Need-add-rows
-add-rows c = search needs
-
-slice-aggregate-fill : tie.Need-slice-aggregate-fill
-slice-aggregate-fill c = search needs
 
 fill-requires : tie.Need-fill-requires
 fill-requires c κs =
@@ -24,21 +18,12 @@ fill-requires c κs =
     let w = window-formed (a .settings) (a .masks .now) (a .stop) (a .specified .now) (a .bits .now) (s .pre) in
     table-room (length (a .specified .now) + 1) (length (a .masks .now)) (omega (arith, window-within (a .settings .limit) (length (a .specified .now)) (w .lengths) .1, w .most)) (w .few)
 
-slice-aggregate-fill-stops : tie.Need-slice-aggregate-fill-stops
-slice-aggregate-fill-stops c = search needs
-
 fill-stops-requires : tie.Need-fill-stops-requires
 fill-stops-requires c κs =
     let s = c .before .before .before .before .before .before .before in
     let a = s .args in
     let w = window-formed (a .settings) (a .masks .now) (a .stop) (a .specified .now) (a .bits .now) (s .pre) in
     (w .few, table-room (length (a .specified .now) + 1) (length (a .masks .now)) (omega (arith, window-within (a .settings .limit) (length (a .specified .now)) (w .lengths) .1, w .most)) (w .few))
-
-slice-aggregate-found-anew : tie.Need-slice-aggregate-found-anew
-slice-aggregate-found-anew c = search needs
-
-slice-aggregate-found-anew-2 : tie.Need-slice-aggregate-found-anew-2
-slice-aggregate-found-anew-2 c = search needs
 
 found-anew-requires : tie.Need-found-anew-requires
 found-anew-requires c κs =
@@ -51,9 +36,6 @@ found-anew-requires c κs =
       w .slices,
     )
 
-answer-requires : tie.Need-answer-requires
-answer-requires c κs = search needs
-
 returns : tie.Need-returns
 returns c = c .answer .ensures _ (c .before .found-anew .ensures)
 
@@ -61,13 +43,13 @@ pub seed-of-spec : {M : Type 1} → statement M
 seed-of-spec =
     tie.close
     (tie.spec
-    add-rows
-    slice-aggregate-fill
+    (λ c. search needs)
+    (λ c. search needs)
     fill-requires
-    slice-aggregate-fill-stops
+    (λ c. search needs)
     fill-stops-requires
-    slice-aggregate-found-anew
-    slice-aggregate-found-anew-2
+    (λ c. search needs)
+    (λ c. search needs)
     found-anew-requires
-    answer-requires
+    (λ c κs. search needs)
     returns)

@@ -8,12 +8,6 @@ use Rattle.window_single.proofs.window_seed.Statement.{statement}
 use Rattle.refusal_order.specs.declared.Verdict.the-variants as verdict
 use Rattle.window_single.proofs.window_seed.Tie as tie
 
-check-window-requires : tie.Need-check-window-requires
-check-window-requires c κs = search needs
-
-enum-known-verdict : tie.Need-enum-known-verdict
-enum-known-verdict c = search needs
-
 enum-told : tie.Need-enum-told
 enum-told c = search needs
 
@@ -38,8 +32,8 @@ pub window-seed-spec : {M : Type 1} → statement M
 window-seed-spec =
     tie.close
     (tie.spec
-    check-window-requires
-    enum-known-verdict
+    (λ c κs. search needs)
+    (λ c. search needs)
     enum-told
     seed-of-requires
     returns

@@ -14,35 +14,8 @@ Inv-loop spaces place free vectors₀ count first vector₀ vectors vector = (ve
 abbrev μ-loop : tie.MeasureT-loop
 μ-loop spaces place free vectors₀ count first vector₀ vectors vector = count - vector
 
-lesser-requires : tie.Need-lesser-requires Inv-loop μ-loop
-lesser-requires c κs = search needs
-
-add-first : tie.Need-add-first Inv-loop μ-loop
-add-first c = search needs
-
 loop-holds : tie.Need-loop-holds Inv-loop μ-loop
 loop-holds c = (omega arith, refl, λ i h. absurd (omega arith))
-
-add-vectors : tie.Need-add-vectors Inv-loop μ-loop
-add-vectors c = search needs
-
-mul-vectors : tie.Need-mul-vectors Inv-loop μ-loop
-mul-vectors c = search needs
-
-shared-slice-read-vectors : tie.Need-shared-slice-read-vectors Inv-loop μ-loop
-shared-slice-read-vectors c = search needs
-
-mul-vectors-2 : tie.Need-mul-vectors-2 Inv-loop μ-loop
-mul-vectors-2 c = search needs
-
-array-write-vectors : tie.Need-array-write-vectors Inv-loop μ-loop
-array-write-vectors c = search needs
-
-add-vector : tie.Need-add-vector Inv-loop μ-loop
-add-vector c = search needs
-
-loop-less : tie.Need-loop-less Inv-loop μ-loop
-loop-less c = search needs
 
 loop-again : tie.Need-loop-again Inv-loop μ-loop
 loop-again c =
@@ -63,15 +36,15 @@ load-spec =
     (tie.spec
     Inv-loop
     μ-loop
-    lesser-requires
-    add-first
+    (λ c κs. search needs)
+    (λ c. search needs)
     loop-holds
-    add-vectors
-    mul-vectors
-    shared-slice-read-vectors
-    mul-vectors-2
-    array-write-vectors
-    add-vector
-    loop-less
+    (λ c. search needs)
+    (λ c. search needs)
+    (λ c. search needs)
+    (λ c. search needs)
+    (λ c. search needs)
+    (λ c. search needs)
+    (λ c. search needs)
     loop-again
     returns)

@@ -14,53 +14,17 @@ Inv-loop spaces₀ place vectors free count first vector₀ spaces vector = (vec
 abbrev μ-loop : tie.MeasureT-loop
 μ-loop spaces₀ place vectors free count first vector₀ spaces vector = count - vector
 
-lesser-requires : tie.Need-lesser-requires Inv-loop μ-loop
-lesser-requires c κs = search needs
-
-mul-spaces : tie.Need-mul-spaces Inv-loop μ-loop
-mul-spaces c = search needs
-
-slice-write-spaces : tie.Need-slice-write-spaces Inv-loop μ-loop
-slice-write-spaces c = search needs
-
-add-spaces : tie.Need-add-spaces Inv-loop μ-loop
-add-spaces c = search needs
-
-mul-spaces-2 : tie.Need-mul-spaces-2 Inv-loop μ-loop
-mul-spaces-2 c = search needs
-
 slice-write-spaces-2 : tie.Need-slice-write-spaces-2 Inv-loop μ-loop
 slice-write-spaces-2 c = simp length-set (search needs)
 
-add-first : tie.Need-add-first Inv-loop μ-loop
-add-first c = search needs
-
 loop-holds : tie.Need-loop-holds Inv-loop μ-loop
 loop-holds c = (omega arith, storing-start _ _ _)
-
-mul-spaces-3 : tie.Need-mul-spaces-3 Inv-loop μ-loop
-mul-spaces-3 c = search needs
-
-shared-slice-read-spaces : tie.Need-shared-slice-read-spaces Inv-loop μ-loop
-shared-slice-read-spaces c = search needs
-
-add-spaces-2 : tie.Need-add-spaces-2 Inv-loop μ-loop
-add-spaces-2 c = search needs
-
-mul-spaces-4 : tie.Need-mul-spaces-4 Inv-loop μ-loop
-mul-spaces-4 c = search needs
 
 slice-write-spaces-3 : tie.Need-slice-write-spaces-3 Inv-loop μ-loop
 slice-write-spaces-3 c =
     let s = c .before .before .before .before .before .before in
     let n : length (c .before .before .loop .spaces) ≡ length (s .args .spaces .now) = c .before .before .loop .inv .1 .long ∙ simp length-set in
     omega (arith, s .pre .0)
-
-add-vector : tie.Need-add-vector Inv-loop μ-loop
-add-vector c = search needs
-
-loop-less : tie.Need-loop-less Inv-loop μ-loop
-loop-less c = search needs
 
 loop-again : tie.Need-loop-again Inv-loop μ-loop
 loop-again c =
@@ -86,21 +50,21 @@ store-spec =
     (tie.spec
     Inv-loop
     μ-loop
-    lesser-requires
-    mul-spaces
-    slice-write-spaces
-    add-spaces
-    mul-spaces-2
+    (λ c κs. search needs)
+    (λ c. search needs)
+    (λ c. search needs)
+    (λ c. search needs)
+    (λ c. search needs)
     slice-write-spaces-2
-    add-first
+    (λ c. search needs)
     loop-holds
-    mul-spaces-3
-    shared-slice-read-spaces
-    add-spaces-2
-    mul-spaces-4
+    (λ c. search needs)
+    (λ c. search needs)
+    (λ c. search needs)
+    (λ c. search needs)
     slice-write-spaces-3
-    add-vector
-    loop-less
+    (λ c. search needs)
+    (λ c. search needs)
     loop-again
     same-length
     returns)

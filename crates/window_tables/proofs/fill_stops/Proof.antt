@@ -12,12 +12,6 @@ use Rattle.window_tables.proofs.Chosen.{front-chosen, few-entries}
 use Rattle.window_tables.proofs.fill_stops.Statement.{statement}
 use Rattle.window_tables.proofs.fill_stops.Tie as tie
 
-slice-aggregate-choose : tie.Need-slice-aggregate-choose
-slice-aggregate-choose c = search needs
-
-choose-requires : tie.Need-choose-requires
-choose-requires c κs = search needs
-
 array-share-prefix-chosen : tie.Need-array-share-prefix-chosen
 array-share-prefix-chosen c =
     let s = c .before .before .before .before .before in
@@ -39,12 +33,6 @@ fill-requires c κs =
     rw (front-chosen (s .args .stop .specified) (s .args .masks .now) (o .last .1 .1 .0) _ (o .result) (o .ensures .0) (o .ensures .1))
     (few-entries (s .args .rows) (s .args .stop .specified) (s .args .masks .now) _ (s .pre .1))
 
-pack-requires : tie.Need-pack-requires
-pack-requires c κs = search needs
-
-same-length : tie.Need-same-length
-same-length c = search needs
-
 returns : tie.Need-returns
 returns c =
     let s = c .before .before .before .before .before .before .before .before .before .before .before in
@@ -61,11 +49,11 @@ pub fill-stops-spec : {M : Type 1} → statement M
 fill-stops-spec =
     tie.close
     (tie.spec
-    slice-aggregate-choose
-    choose-requires
+    (λ c. search needs)
+    (λ c κs. search needs)
     array-share-prefix-chosen
     slice-aggregate-fill
     fill-requires
-    pack-requires
-    same-length
+    (λ c κs. search needs)
+    (λ c. search needs)
     returns)

@@ -5,9 +5,6 @@ use borrow.Author.Needs.{needs}
 use Rattle.words_gf2.proofs.beyond.Statement.{statement}
 use Rattle.words_gf2.proofs.beyond.Tie as tie
 
-shr-result : tie.Need-shr-result
-shr-result c = search needs
-
 returns : tie.Need-returns
 returns c = beyond-quotient _ _
 
@@ -15,4 +12,4 @@ returns-2 : tie.Need-returns-2
 returns-2 c = sym (beyond-wide 64 _ _ (search needs) (search needs))
 
 pub beyond-spec : {M : Type 1} → statement M
-beyond-spec = tie.close (tie.spec shr-result returns returns-2)
+beyond-spec = tie.close (tie.spec (λ c. search needs) returns returns-2)

@@ -6,9 +6,6 @@ use borrow.Author.Needs.{needs}
 use Rattle.words_gf2.proofs.digit.Statement.{statement}
 use Rattle.words_gf2.proofs.digit.Tie as tie
 
-shr-result : tie.Need-shr-result
-shr-result c = search needs
-
 returns : tie.Need-returns
 unfolding digit
 returns c = search needs
@@ -17,4 +14,4 @@ returns-2 : tie.Need-returns-2
 returns-2 c = sym (digit-wide 64 _ _ (search needs) (search needs))
 
 pub digit-spec : {M : Type 1} → statement M
-digit-spec = tie.close (tie.spec shr-result returns returns-2)
+digit-spec = tie.close (tie.spec (λ c. search needs) returns returns-2)
