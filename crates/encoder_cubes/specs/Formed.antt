@@ -3,7 +3,7 @@
 use mathlib.Core.Path.{_≡_}
 use mathlib.Core.Bool.{false}
 use mathlib.Core.List.{List}
-use Prim.Native.Nat.{ℕ, _≤_}
+use Prim.Native.Nat.{ℕ}
 use lib.ListN.{length}
 use Rattle.machine_settings.specs.declared.Settings.{Settings}
 use Rattle.machine_register.specs.Register.{badRegister}
@@ -14,8 +14,6 @@ use Rattle.refusal_lengths.specs.Lengths.{badLimit, badSet}
 pub record CubesFormed (g : Settings) (masks specified bits : List ℕ) : Type 0 where
   pub register : badRegister (g .cells) (g .taps) ≡ false
   pub chains : badChains (g .cells) masks ≡ false
-  pub few : length masks ≤ 64
   pub limit : badLimit (g .limit) ≡ false
-  pub most : g .limit ≤ 256
   pub lengths : badSet (length specified) ≡ false
   pub slices : badSlices (length masks) specified bits ≡ false

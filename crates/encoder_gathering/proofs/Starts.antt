@@ -1,19 +1,15 @@
 -- A start in a segment, as the loop that gathers the seeds takes it.
---     segment-closes  which windows close with their stop
 --     part-bounds     the part that a window from there may take
 --     part-slices     its slices are well-formed
 --     part-window     the longest window of the part is the greedy one
 -- Assumes nothing.
-use mathlib.Core.Path.{_≡_, refl, sym, ap, _∙_}
-use mathlib.Core.Logic.{⊎-elim}
-use mathlib.Core.Bool.{Bool, true, false, _||_}
+use mathlib.Core.Path.{_≡_, sym, ap, _∙_}
+use mathlib.Core.Bool.{Bool, false, _||_}
 use mathlib.Core.List.{List}
 use Prim.Native.Nat.{ℕ, _-_, _≤_, min}
 use native.Mathlib.Omega.{arith}
 use lib.Dec.{ltb}
 use lib.ListN.{length, take, drop, length-take, length-drop}
-use borrow.Author.Tests.{eq-eqb, ne-eqb, lt-ltb, le-ltb}
-use Rattle.words_bounded.proofs.Tests.{lt-or-le}
 use Rattle.machine_settings.specs.declared.Settings.{Settings}
 use Rattle.machine_settings.specs.Machine.{Machine, machine}
 use Rattle.machine_slices.specs.declared.TestSlice.{TestSlice}
@@ -22,18 +18,10 @@ use Rattle.machine_slices.proofs.Causes.{slices-equal}
 use Rattle.machine_slices.proofs.Formed.{paired-take, paired-drop, slices-length, slices-take, slices-drop}
 use Rattle.theory_covering.specs.Rules.{Rules, segmentRules}
 use Rattle.theory_covering.specs.Windows.{part, far, closes}
-use Rattle.theory_covering.proofs.Places.{far-segment}
+use Rattle.theory_covering.proofs.Places.{far-segment, segment-closes}
 use Rattle.window_lengths.specs.Longest.{reachOf}
 use Rattle.window_lengths.specs.declared.Window.{Window}
 use Rattle.encoder_gathering.proofs.Reaching.{Reaches, reaches}
-
-segment-closes : (g : Settings) (stop : TestSlice) (closing : Bool) (n e : ℕ) → e ≤ n → closes (segmentRules g stop closing) n e ≡ (closing || ltb e n)
-unfolding closes
-segment-closes g stop true n e h = refl
-segment-closes g stop false n e h = ⊎-elim
-    (λ l. rw (ne-eqb e n (λ q. omega arith), lt-ltb e n l))
-    (λ l. let q : e ≡ n = omega arith in rw (eq-eqb e n q, le-ltb e n l))
-    (lt-or-le e n)
 
 module _ (g : Settings) (masks : List ℕ) (stop : TestSlice) (closing : Bool) (ps bs : List ℕ) (b : badSlices (length masks) ps bs ≡ false) where
   abbrev M : Machine

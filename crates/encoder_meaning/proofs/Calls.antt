@@ -24,7 +24,7 @@ use Rattle.refusal_order.specs.Order.{judged}
 use Rattle.refusal_checks.specs.Calls.{setFaults, listFaults}
 use Rattle.refusal_order.specs.declared.Verdict.{Verdict}
 use Rattle.refusal_lengths.proofs.Lengths.{set-within, list-seeds}
-use Rattle.refusal_checks.proofs.Formed.{Formed, set-formed, formed-call}
+use Rattle.refusal_checks.proofs.Formed.{CallFormed, set-formed, formed-call}
 use Rattle.theory_cutting.proofs.Parts.{covering-length, cuts-count}
 use Rattle.theory_covering.specs.Rules.{Rules, rules}
 use Rattle.theory_covering.specs.Windows.{CoveredBy, ok}
@@ -49,7 +49,7 @@ module _ (g : Settings) (masks : List ℕ) (stop : TestSlice) (specified bits : 
   abbrev verdict-of : Verdict
   verdict-of = judged (setFaults g masks stop specified bits)
 
-  formed : verdict-of ≡ verdict.WellFormed → Formed g masks (badSet (length specified)) (badSlices (length masks) specified bits) (badStop (length masks) stop)
+  formed : verdict-of ≡ verdict.WellFormed → CallFormed g masks (badSet (length specified)) (badSlices (length masks) specified bits) (badStop (length masks) stop)
   formed w = set-formed g masks stop specified bits w
 
   set-length : verdict-of ≡ verdict.WellFormed → length set ≡ length specified
@@ -62,16 +62,8 @@ module _ (g : Settings) (masks : List ℕ) (stop : TestSlice) (specified bits : 
   list-formed : verdict-of ≡ verdict.WellFormed → (seeds : List ℕ) → Shortest M R set seeds
       → judged (listFaults g masks stop (length specified) (length seeds)) ≡ verdict.WellFormed
   unfolding listFaults
-  list-formed w seeds l = formed-call g masks _ _ _ (record {
-    register = formed w .register;
-    chains = formed w .chains;
-    few = formed w .few;
-    limit = formed w .limit;
-    most = formed w .most;
-    lengths = list-seeds (length specified) (length seeds) (formed w .lengths) ∙ le-ltb 2048 (length seeds) (few-seeds w seeds l);
-    slices = refl;
-    stop = formed w .stop;
-  })
+  list-formed w seeds l = formed-call g masks _ _ _ (formed w .register) (formed w .chains) (formed w .limit)
+      (list-seeds (length specified) (length seeds) (formed w .lengths) ∙ le-ltb 2048 (length seeds) (few-seeds w seeds l)) refl (formed w .stop)
 
   expands-back : verdict-of ≡ verdict.WellFormed → (seeds out : List ℕ) → Shortest M R set seeds
       → expandList g masks stop (length specified) seeds out ≡ expanding M R (length set) seeds out

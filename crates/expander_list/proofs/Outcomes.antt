@@ -29,7 +29,7 @@ use Rattle.refusal_checks.specs.Calls.{listFaults}
 use Rattle.refusal_order.specs.declared.Verdict.{Verdict}
 use Rattle.refusal_lengths.specs.Lengths.{badList}
 use Rattle.refusal_lengths.proofs.Lengths.{list-within}
-use Rattle.refusal_checks.proofs.Formed.{Formed, list-formed}
+use Rattle.refusal_checks.proofs.Formed.{CallFormed, list-formed}
 use Rattle.theory_covering.specs.Rules.{Rules, rules}
 use Rattle.expander_meaning.specs.Expanding.{Walk, ran, failed, walk, totalled, expanding, expandList}
 use Rattle.expander_meaning.specs.Sized.{Sized}
@@ -98,7 +98,7 @@ module _ (g : Settings) (masks : List ℕ) (stop : TestSlice) (n : ℕ) (seeds o
     unfolding expandList
     call-formed = rw (w, expandList)
 
-    formed : Formed g masks (badList n (length seeds)) false (badStop (length masks) stop)
+    formed : CallFormed g masks (badList n (length seeds)) false (badStop (length masks) stop)
     formed = list-formed g masks stop n (length seeds) w
 
     pub call-sized : Sized g masks

@@ -1,5 +1,5 @@
 -- What the functions of expanding ask for.
---     Sized g masks             register and chains that fit words
+--     Sized g masks             at most 64 cells, windows of at most 256 slices, at most 64 chains
 use mathlib.Core.List.{List}
 use Prim.Native.Nat.{ℕ, _≤_}
 use lib.ListN.{length}

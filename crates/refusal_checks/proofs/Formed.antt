@@ -1,7 +1,7 @@
 -- What the checks of a call with settings leave.
 --     limit-bad, limit-good     cause 3 where the limit is refused; where it is not, the lengths of the call decide
---     Formed g masks lengths slices stop     none of causes 1 to 5 holds; so there are at most 64 chains, and windows have at most 256 slices
---     call-formed, formed-call  the checks leave it, and only then
+--     CallFormed g masks l s t  none of causes 1 to 5 holds; so there are at most 64 chains, and windows have at most 256 slices
+--     call-formed, formed-call  the checks leave it, and only then; l, s and t are what the call says of its lengths, slices and stop slice
 --     window-formed, set-formed, cubes-formed, list-formed     the same of each kind of call
 -- Assumes nothing.
 use mathlib.Core.Path.{_≡_, _∙_}
@@ -36,7 +36,7 @@ module _ (g : Settings) (lengths : Bool) where
   unfolding limited
   limited-parts b = neither (badLimit (g .limit)) lengths b
 
-pub record Formed (g : Settings) (masks : List ℕ) (l s t : Bool) : Type 0 where
+pub record CallFormed (g : Settings) (masks : List ℕ) (l s t : Bool) : Type 0 where
   pub register : badRegister (g .cells) (g .taps) ≡ false
   pub chains : badChains (g .cells) masks ≡ false
   pub few : length masks ≤ 64
@@ -47,7 +47,7 @@ pub record Formed (g : Settings) (masks : List ℕ) (l s t : Bool) : Type 0 wher
   pub stop : t ≡ false
 
 module _ (g : Settings) (masks : List ℕ) where
-  call-formed : (l s t : Bool) → judged (callFaults g masks l s t) ≡ WellFormed → Formed g masks l s t
+  call-formed : (l s t : Bool) → judged (callFaults g masks l s t) ≡ WellFormed → CallFormed g masks l s t
   unfolding callFaults
   call-formed l s t w =
       let f = formed-well (callFaults g masks l s t) w in
@@ -63,30 +63,31 @@ module _ (g : Settings) (masks : List ℕ) where
         stop = f .stop;
       }
 
-  pub formed-call : (l s t : Bool) → Formed g masks l s t → judged (callFaults g masks l s t) ≡ WellFormed
+  pub formed-call : (l s t : Bool) → badRegister (g .cells) (g .taps) ≡ false → badChains (g .cells) masks ≡ false → badLimit (g .limit) ≡ false → l ≡ false → s ≡ false → t ≡ false
+      → judged (callFaults g masks l s t) ≡ WellFormed
   unfolding callFaults
-  formed-call l s t f = well-formed (callFaults g masks l s t) (record {
-    register = f .register;
-    chains = f .chains;
-    lengths = limit-good g l (f .limit) ∙ f .lengths;
-    slices = f .slices;
-    stop = f .stop;
+  formed-call l s t register chains limit lengths slices stop = well-formed (callFaults g masks l s t) (record {
+    register = register;
+    chains = chains;
+    lengths = limit-good g l limit ∙ lengths;
+    slices = slices;
+    stop = stop;
   })
 
-  pub list-formed : (stop : TestSlice) (n seeds : ℕ) → judged (listFaults g masks stop n seeds) ≡ WellFormed → Formed g masks (badList n seeds) false (badStop (length masks) stop)
+  pub list-formed : (stop : TestSlice) (n seeds : ℕ) → judged (listFaults g masks stop n seeds) ≡ WellFormed → CallFormed g masks (badList n seeds) false (badStop (length masks) stop)
   unfolding listFaults
   list-formed stop n seeds w = call-formed _ _ _ w
 
   module _ (ps bs : List ℕ) where
-    pub cubes-formed : (depth : ℕ) → judged (cubesFaults g masks depth ps bs) ≡ WellFormed → Formed g masks (badCubes depth (length ps)) (badSlices (length masks) ps bs) false
+    pub cubes-formed : (depth : ℕ) → judged (cubesFaults g masks depth ps bs) ≡ WellFormed → CallFormed g masks (badCubes depth (length ps)) (badSlices (length masks) ps bs) false
     unfolding cubesFaults
     cubes-formed depth w = call-formed _ _ _ w
 
   module _ (stop : TestSlice) (ps bs : List ℕ) where
-    pub window-formed : judged (windowFaults g masks stop ps bs) ≡ WellFormed → Formed g masks (badWindow (g .limit) (length ps)) (badSlices (length masks) ps bs) (badStop (length masks) stop)
+    pub window-formed : judged (windowFaults g masks stop ps bs) ≡ WellFormed → CallFormed g masks (badWindow (g .limit) (length ps)) (badSlices (length masks) ps bs) (badStop (length masks) stop)
     unfolding windowFaults
     window-formed w = call-formed _ _ _ w
 
-    pub set-formed : judged (setFaults g masks stop ps bs) ≡ WellFormed → Formed g masks (badSet (length ps)) (badSlices (length masks) ps bs) (badStop (length masks) stop)
+    pub set-formed : judged (setFaults g masks stop ps bs) ≡ WellFormed → CallFormed g masks (badSet (length ps)) (badSlices (length masks) ps bs) (badStop (length masks) stop)
     unfolding setFaults
     set-formed w = call-formed _ _ _ w

@@ -2,27 +2,28 @@
 --     far-mono, far-le       the farthest end rises with the start and stays within the set
 --     placed-parts, parts-placed     what a placed window is
 --     far-segment            in a segment: its end or the limit
+--     segment-closes         in a segment: which windows close with their stop
 --     placed-base            in the base: 1 to 256 slices, within the set
 --     suffix-placed          the rest of a placed window is placed
 --     part-cons              the first slice of a part, and the rest
 -- Assumes nothing.
 use mathlib.Core.Path.{_≡_, refl}
-use mathlib.Core.Logic.{_↔_}
-use mathlib.Core.Bool.{Bool, true, false}
+use mathlib.Core.Logic.{_↔_, ⊎-elim}
+use mathlib.Core.Bool.{Bool, true, false, _||_}
 use mathlib.Core.List.{List, [], _∷_}
 use Prim.Native.Nat.{ℕ, suc, _+_, _-_, _≤_, _<_, min}
 use native.Mathlib.Omega.{arith}
 use lib.Dec.{ltb, leb}
 use lib.ListN.{length, getD}
 use lib.Seq.{drop-cons}
-use borrow.Author.Tests.{ltb-true, ltb-false, leb-true, lt-ltb, le-leb}
-use Rattle.words_bounded.proofs.Tests.{both, and-yes}
+use borrow.Author.Tests.{ltb-true, ltb-false, leb-true, lt-ltb, le-ltb, le-leb, eq-eqb, ne-eqb}
+use Rattle.words_bounded.proofs.Tests.{both, and-yes, lt-or-le}
 use Rattle.theory_cutting.specs.Meaning.{Suffix}
 use Rattle.machine_settings.specs.declared.Settings.{Settings}
 use Rattle.machine_settings.specs.Machine.{base}
 use Rattle.machine_slices.specs.declared.TestSlice.{TestSlice}
 use Rattle.theory_covering.specs.Rules.{Rules, segmentRules, rules}
-use Rattle.theory_covering.specs.Windows.{part, before, far, placed}
+use Rattle.theory_covering.specs.Windows.{part, before, far, placed, closes}
 
 before-mono : (es : List ℕ) (i j m n : ℕ) → i ≤ j → m ≤ n → before es i m ≤ before es j n
 unfolding before
@@ -66,6 +67,14 @@ parts-placed R n i k a b = and-yes (ltb i k) (leb k (far R n i)) (lt-ltb i k a) 
 pub far-segment : (g : Settings) (stop : TestSlice) (closing : Bool) (n i : ℕ) → far (segmentRules g stop closing) n i ≡ min n (i + g .limit)
 unfolding far before
 far-segment g stop closing n i = refl
+
+pub segment-closes : (g : Settings) (stop : TestSlice) (closing : Bool) (n k : ℕ) → k ≤ n → closes (segmentRules g stop closing) n k ≡ (closing || ltb k n)
+unfolding closes
+segment-closes g stop true n k h = refl
+segment-closes g stop false n k h = ⊎-elim
+    (λ l. rw (ne-eqb k n (λ q. omega arith), lt-ltb k n l))
+    (λ l. let q : k ≡ n = omega arith in rw (eq-eqb k n q, le-ltb k n l))
+    (lt-or-le k n)
 
 pub placed-base : (cells taps : ℕ) (stop : TestSlice) (n i k : ℕ) → (placed (rules (base cells taps) stop) n i k ≡ true) ↔ ((i < k) × (k ≤ n) × (k ≤ i + 256))
 unfolding far before

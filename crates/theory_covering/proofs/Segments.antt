@@ -5,20 +5,20 @@
 -- Assumes nothing.
 use mathlib.Core.Path.{_≡_, refl, sym, ap, _∙_}
 use mathlib.Core.Logic.{⊎-elim}
-use mathlib.Core.Bool.{Bool, true, false, _&&_, and-false}
+use mathlib.Core.Bool.{Bool, true, false, _&&_, and-false, or-true, or-false}
 use mathlib.Core.List.{List, [], _∷_}
 use Prim.Native.Nat.{ℕ, zero, suc, _+_, _-_, _≤_, _<_, min}
 use native.Mathlib.Omega.{arith}
 use lib.ListN.{length, take, drop}
 use lib.Seq.{length-take-le, take-take}
-use borrow.Author.Tests.{eq-eqb, ne-eqb}
-use Rattle.words_bounded.proofs.Tests.{eq-or-not}
+use borrow.Author.Tests.{ne-eqb, lt-ltb, le-ltb}
+use Rattle.words_bounded.proofs.Tests.{lt-or-le}
 use Rattle.machine_settings.specs.declared.Settings.{Settings}
 use Rattle.machine_settings.specs.Machine.{Machine}
 use Rattle.machine_slices.specs.declared.TestSlice.{TestSlice}
 use Rattle.theory_covering.specs.Rules.{Rules, segmentRules, rules}
 use Rattle.theory_covering.specs.Windows.{part, far as farOf, placed, closes, seedAt, found, ok}
-use Rattle.theory_covering.proofs.Places.{far-segment, placed-parts}
+use Rattle.theory_covering.proofs.Places.{far-segment, segment-closes, placed-parts}
 
 pub record Segment (R : Rules) (n from to : ℕ) (stop : TestSlice) (closing : Bool) : Type 0 where
   pub within : to ≤ n
@@ -32,15 +32,6 @@ front-drop [] (suc i) m zero h = refl
 front-drop [] (suc i) m (suc n) h = refl
 front-drop (x ∷ l) (suc i) m zero h = absurd (omega arith)
 front-drop (x ∷ l) (suc i) m (suc n) h = front-drop l i m n (omega arith)
-
-closes-end : (g : Settings) (stop : TestSlice) (n : ℕ) (closing : Bool) → closes (segmentRules g stop closing) n n ≡ closing
-unfolding closes
-closes-end g stop n true = refl
-closes-end g stop n false = rw (eq-eqb n n refl)
-
-closes-before : (R : Rules) (n k : ℕ) → (k ≡ n → ⊥) → closes R n k ≡ true
-unfolding closes
-closes-before R n k ne = rw (ne-eqb k n ne, and-false)
 
 module _ (M : Machine) (R : Rules) (g : Settings) (set : List TestSlice) (from to : ℕ) (stop : TestSlice) (closing : Bool) (same : g .limit ≡ R .limit) (s : Segment R (length set) from to stop closing) where
   abbrev n : ℕ
@@ -57,10 +48,11 @@ module _ (M : Machine) (R : Rules) (g : Settings) (set : List TestSlice) (from t
 
   -- a window that ends before the segment does not end the set either
   closes-same : (k : ℕ) → k ≤ to → closes R n k ≡ closes S (length front) k
-  closes-same k h = rw size (⊎-elim
-      (λ e. rw e (s .closed ∙ sym (closes-end g stop to closing)))
-      (λ ne. closes-before R n k (λ q. ne (omega (arith, s .within))) ∙ sym (closes-before S to k ne))
-      (eq-or-not k to))
+  unfolding closes
+  closes-same k h = rw (size, segment-closes g stop closing to k h) (⊎-elim
+      (λ l. rw (ne-eqb k n (λ q. omega (arith, s .within)), and-false, lt-ltb k to l, or-true))
+      (λ l. let e : k ≡ to = omega arith in rw (e, le-ltb to to (omega arith), or-false) (s .closed))
+      (lt-or-le k to))
 
   module _ (i : ℕ) (a : from ≤ i) (b : i < to) where
     far-same : farOf R n i ≡ farOf S (length front) i

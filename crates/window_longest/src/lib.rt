@@ -47,7 +47,7 @@ fn reach_with(
 }
 
 // The longest window from the first slice of a part on that some state covers, and its seed: lengths are tried from the longest that the equations allow down.
-// A window that takes the whole part closes with its stop where `closing` says so, a shorter one always.
+// A window that takes the whole part closes with its stop where `sought` says so, a shorter one always.
 // An inner function: its callers show that the part is well-formed and that the tables are those of the register, the chains and the stop slice.
 pub fn reach(
     sought: Sought,

@@ -1,4 +1,4 @@
-// The tables of a call: the masks of all chains and of the stop's chains pulled back, row by row, and the stop slice without its unspecified positions.
+// What a search is told besides the slices: what is asked of the seed, and the tables of a call: the masks of all chains and of the stop's chains pulled back, row by row, and the stop slice without its unspecified positions.
 use machine_settings::Settings;
 use machine_slices::TestSlice;
 use search_rows::Pattern;

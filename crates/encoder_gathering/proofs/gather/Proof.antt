@@ -32,7 +32,7 @@ loop-holds : tie.Need-loop-holds Inv-loop μ-loop
 loop-holds c =
     let s = c .before .before .before .before .before .before .before .before .before in
     let a = s .args in
-    gathering-start (machine (a .sought .settings) (a .masks .now)) (segmentRules (a .sought .settings) (a .sought .stop) (a .sought .closing)) (paired (a .specified .now) (a .bits .now)) (a .seeds .now) (a .earlier) (omega (arith, s .pre .1 .1 .1 .1, slices-length (length (a .masks .now)) (a .specified .now) (a .bits .now) (s .pre .1 .0)))
+    gathering-start (machine (a .sought .settings) (a .masks .now)) (segmentRules (a .sought .settings) (a .sought .stop) (a .sought .closing)) (paired (a .specified .now) (a .bits .now)) (a .seeds .now) _ (omega (arith, s .pre .1 .1 .1 .1, slices-length (length (a .masks .now)) (a .specified .now) (a .bits .now) (s .pre .1 .0)))
 
 far-requires : tie.Need-far-requires Inv-loop μ-loop
 far-requires c κs =
