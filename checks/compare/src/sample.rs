@@ -24,7 +24,7 @@ const PARTS: [&str; 8] = [
 ];
 
 /// The crates of these parts that state theorems about whole texts: no answer is computed from them.
-const THEOREMS: [&str; 2] = ["text_readback", "text_roundtrip"];
+const THEOREMS: [&str; 3] = ["text_bounds", "text_readback", "text_roundtrip"];
 
 /// The crates whose definitions the answers are computed from and that have any.
 fn crates(root: &Path) -> io::Result<Vec<String>> {
@@ -107,6 +107,7 @@ use Rattle.stop_slice.specs.declared.Formed.the-variants as formed
 use Rattle.theory_covering.specs.declared.Seed.{Seed}
 use Rattle.theory_covering.specs.declared.Seed.the-variants as seed
 use Rattle.text_keys.specs.Bytes.{bytes}
+use Rattle.text_calls.specs.Texts.{encodeText, expandText}
 ";
 
 /// Questions and answers of one kind.

@@ -1,5 +1,5 @@
 -- A slice as document 01 writes it: a character for each chain, chain 1 leftmost; 0, 1 or x.
---     ofRow r                the slice of a row of characters; none where there is no slice
+--     ofSaid r               the slice that characters say; none where there is none
 --     slice s                the test slice or stop slice of such a text
 --     specifieds, bitses     the two lists of several
 use mathlib.Core.List.{List, [], _∷_}
@@ -7,16 +7,16 @@ use Prim.Native.Nat.{ℕ}
 use Prim.Native.String.{String}
 use Rattle.machine_slices.specs.declared.TestSlice.{TestSlice}
 use Rattle.text_keys.specs.Bytes.{bytes}
-use Rattle.text_characters.specs.Characters.{rowOf}
-use Rattle.text_characters.specs.declared.Row.{Row}
-use Rattle.text_characters.specs.declared.Row.the-variants as rows
+use Rattle.text_characters.specs.Characters.{sliceOf}
+use Rattle.text_characters.specs.declared.SliceSaid.{SliceSaid}
+use Rattle.text_characters.specs.declared.SliceSaid.the-variants as saying
 
-abbrev pub ofRow : Row → TestSlice
-ofRow (rows.Slice s) = s
-ofRow rows.Nothing = record { specified = 0; bits = 0 }
+abbrev pub ofSaid : SliceSaid → TestSlice
+ofSaid (saying.Slice s) = s
+ofSaid saying.Nothing = record { specified = 0; bits = 0 }
 
 abbrev pub slice : String → TestSlice
-slice s = ofRow (rowOf (bytes s))
+slice s = ofSaid (sliceOf (bytes s))
 
 abbrev pub specifieds : List String → List ℕ
 specifieds [] = []

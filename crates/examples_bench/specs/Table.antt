@@ -43,7 +43,7 @@ use Rattle.encoder_meaning.specs.Encoding.{seedsOf, planned, encoding, encodeSe
 use Rattle.encoder_cubes.specs.Cubes.{CubesOutcome, stopped, withStop, cubesEncoding, encodeCubes}
 use Rattle.encoder_cubes.specs.declared.Encoded.{Encoded}
 use Rattle.encoder_cubes.specs.declared.Encoded.the-variants as encoded
-use Rattle.text_characters.specs.Characters.{isCharacter, specifiedAt, bitAt, inFront, rowOf}
+use Rattle.text_characters.specs.Characters.{isCharacter, specifiedAt, bitAt, inFront, sliceOf}
 use Rattle.examples_bench.specs.Reading.{slice, specifieds, bitses}
 
 pub data Question : Type 0 where
@@ -159,5 +159,5 @@ tolds [] = []
 tolds (r ∷ rs) = r .told ∷ tolds rs
 
 pub starred : answers table ≡ tolds table
-unfolding answers tolds answer refusal states showings of-formed of-seed of-written of-encoded yes digit odd beyond ones onesIn within any leastBelow lastBelow refuse fill step badRegister chainsSlice badCount badMask badChains agrees shows paired badSlice badSlices badStop badLimit badWindow badSet badCubes badList tests firstOf judged limited callFaults windowFaults setFaults cubesFaults stopFaults listFaults reach hop ends greedy filter count better choice settle keep setBy advance stage ended stopFor stopOr6 stopOf fits quiet covers seedOf before far placed closes seedAt ok lowestOr7 windowSeed slicesOf firstStop ending delivers after adding walk totalled expanding expandList seedsOf planned encoding encodeSet stopped withStop cubesEncoding encodeCubes isCharacter specifiedAt bitAt inFront rowOf
+unfolding answers tolds answer refusal states showings of-formed of-seed of-written of-encoded yes digit odd beyond ones onesIn within any leastBelow lastBelow refuse fill step badRegister chainsSlice badCount badMask badChains agrees shows paired badSlice badSlices badStop badLimit badWindow badSet badCubes badList tests firstOf judged limited callFaults windowFaults setFaults cubesFaults stopFaults listFaults reach hop ends greedy filter count better choice settle keep setBy advance stage ended stopFor stopOr6 stopOf fits quiet covers seedOf before far placed closes seedAt ok lowestOr7 windowSeed slicesOf firstStop ending delivers after adding walk totalled expanding expandList seedsOf planned encoding encodeSet stopped withStop cubesEncoding encodeCubes isCharacter specifiedAt bitAt inFront sliceOf
 starred = refl

@@ -18,11 +18,10 @@ use Rattle.theory_covering.specs.declared.Seed.the-variants as seed
 use Rattle.encoder_cubes.specs.declared.Encoded.{Encoded}
 use Rattle.encoder_cubes.specs.declared.Encoded.the-variants as encoded
 use Rattle.text_replies.specs.Replies.{Reply, RefusedBy, text, refused}
-use Rattle.text_encode.specs.EncodeText.{encodeReply, encodeCall}
-use Rattle.text_expand.specs.ExpandText.{expandReply, expandCall}
 use Rattle.text_replies.specs.Calls.{answered, called}
-use Rattle.text_encode.proofs.Refusals.{encode-on-sheet}
-use Rattle.text_expand.proofs.Refusals.{expand-on-sheet}
+use Rattle.text_order.specs.declared.Kind.{Kind}
+use Rattle.text_calls.specs.Texts.{replyTo, callOf}
+use Rattle.text_calls.proofs.Refusals.{reply-on-sheet}
 use Rattle.face_checks.specs.Verdicts.{numberOf}
 use Rattle.face_numbers.specs.Stop.{stopAnswerOf}
 use Rattle.face_answers.specs.Answers.{answerOf, seedAnswerOf, cubesAnswerOf, textAnswerOf}
@@ -58,10 +57,6 @@ unfolding called
 called-numbered (text bs n) out h = answered-numbered n (fill bs out .answer)
 called-numbered (refused r) out h = inr h
 
-pub encode-numbered : (s out : List ℕ) → Numbered (textAnswerOf (encodeCall s out .answer) .number)
-unfolding encodeCall
-encode-numbered s out = called-numbered (encodeReply s) out (encode-on-sheet s)
-
-pub expand-numbered : (s out : List ℕ) → Numbered (textAnswerOf (expandCall s out .answer) .number)
-unfolding expandCall
-expand-numbered s out = called-numbered (expandReply s) out (expand-on-sheet s)
+pub text-numbered : (kind : Kind) (s out : List ℕ) → Numbered (textAnswerOf (callOf kind s out .answer) .number)
+unfolding callOf
+text-numbered kind s out = called-numbered (replyTo kind s) out (reply-on-sheet kind s)

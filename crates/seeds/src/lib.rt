@@ -5,6 +5,7 @@ use face_answers::SeedAnswer;
 use face_answers::TextAnswer;
 use face_numbers::StopAnswer;
 use face_values::Settings;
+use text_order::Kind;
 ghost use mathlib.Core.Path.{_≡_};
 ghost use lib.ListN.{take};
 ghost use Rattle.machine_register.specs.Register.{stepOf};
@@ -20,8 +21,7 @@ ghost use Rattle.encoder_meaning.specs.Encoding.{encodeSet};
 ghost use Rattle.encoder_cubes.specs.Cubes.{encodeCubes};
 ghost use Rattle.encoder_meaning.specs.Meaning.{SetMeaning};
 ghost use Rattle.encoder_cubes.specs.Meaning.{CubesMeaning};
-ghost use Rattle.text_encode.specs.EncodeText.{encodeCall};
-ghost use Rattle.text_expand.specs.ExpandText.{expandCall};
+ghost use Rattle.text_calls.specs.Texts.{encodeCall, expandCall};
 ghost use Rattle.face_values.specs.Values.{registerOf, settingsOf, testSliceOf};
 ghost use Rattle.face_numbers.specs.Stop.{stopAnswerOf};
 ghost use Rattle.face_answers.specs.Answers.{answerOf, cubesAnswerOf, seedAnswerOf, textAnswerOf};
@@ -237,7 +237,7 @@ pub extern "C" fn seeds_encode_text(sheet: &[u8], out: &mut [u8]) -> TextAnswer
     ensures answer { λ r. ⌜ r ≡ textAnswerOf (encodeCall (now (sheet .entry)) (now (out .entry)) .answer) ⌝ }
     ensures buffer { λ _. ⌜ now (out .exit) ≡ encodeCall (now (sheet .entry)) (now (out .entry)) .buffer ⌝ }
 {
-    face_texts::encode_text(sheet, out)
+    face_texts::answer_text(Kind::Sheet, sheet, out)
 }
 
 // The slices of a seed list, written into the buffer as text: refused in the same order.
@@ -246,5 +246,5 @@ pub extern "C" fn seeds_expand_text(list: &[u8], out: &mut [u8]) -> TextAnswer
     ensures answer { λ r. ⌜ r ≡ textAnswerOf (expandCall (now (list .entry)) (now (out .entry)) .answer) ⌝ }
     ensures buffer { λ _. ⌜ now (out .exit) ≡ expandCall (now (list .entry)) (now (out .entry)) .buffer ⌝ }
 {
-    face_texts::expand_text(list, out)
+    face_texts::answer_text(Kind::SeedList, list, out)
 }

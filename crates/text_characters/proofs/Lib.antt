@@ -1,2 +1,2 @@
 -- The laws of slices in lines, and the proofs of the functions.
-pub mod Rows
+pub mod Slices

@@ -2,14 +2,14 @@
 --     isCharacter b       the byte b is 0, 1 or x
 --     specifiedAt b       1 where the character specifies a bit
 --     bitAt b             the bit, 0 where there is none
---     inFront b r         the row r with the character b in front
---     rowOf l             the row of the characters l: their slice, or nothing
+--     inFront b r         what characters say, r, with the character b in front
+--     sliceOf l           what the characters l say: their slice, or nothing
 use mathlib.Core.Bool.{Bool, true, false, _||_}
 use mathlib.Core.List.{List, [], _∷_}
 use Prim.Native.Nat.{ℕ, _+_, _*_}
 use lib.Dec.{eqb}
-use Rattle.text_characters.specs.declared.Row.{Row}
-use Rattle.text_characters.specs.declared.Row.the-variants.{Slice, Nothing}
+use Rattle.text_characters.specs.declared.SliceSaid.{SliceSaid}
+use Rattle.text_characters.specs.declared.SliceSaid.the-variants.{Slice, Nothing}
 
 -- The characters 0, 1 and x have the codes 48, 49 and 120.
 unfoldable pub isCharacter : ℕ → Bool
@@ -22,13 +22,13 @@ unfoldable pub bitAt : ℕ → ℕ
 bitAt b = elim (eqb b 49) [ true ↦ 1 | false ↦ 0 ]
 
 -- A character in front has the weight 1, and those after it the double of what they had.
-unfoldable pub inFront : ℕ → Row → Row
+unfoldable pub inFront : ℕ → SliceSaid → SliceSaid
 inFront b Nothing = Nothing
 inFront b (Slice s) = elim (isCharacter b) [
   | true ↦ Slice (record { specified = s .specified * 2 + specifiedAt b; bits = s .bits * 2 + bitAt b })
   | false ↦ Nothing
 ]
 
-unfoldable pub rowOf : List ℕ → Row
-rowOf [] = Slice (record { specified = 0; bits = 0 })
-rowOf (b ∷ l) = inFront b (rowOf l)
+unfoldable pub sliceOf : List ℕ → SliceSaid
+sliceOf [] = Slice (record { specified = 0; bits = 0 })
+sliceOf (b ∷ l) = inFront b (sliceOf l)

@@ -3,10 +3,10 @@ use machine_slices::TestSlice;
 ghost use mathlib.Core.Path.{_≡_};
 ghost use Prim.Native.Nat.{_≤_};
 ghost use lib.ListN.{length};
-ghost use Rattle.text_characters.specs.Characters.{isCharacter, specifiedAt, bitAt, rowOf};
+ghost use Rattle.text_characters.specs.Characters.{isCharacter, specifiedAt, bitAt, sliceOf};
 
 // The slice that characters say.
-pub enum Row {
+pub enum SliceSaid {
     Slice(TestSlice),
     Nothing,
 }
@@ -40,9 +40,9 @@ fn bit_at(b: u8) -> u64
 
 // The slice that the characters say. The first has the least weight, so they are read from the last.
 // An inner function: its callers show that there are at most 64 characters.
-pub fn row_of(value: &[u8]) -> Row
+pub fn slice_of(value: &[u8]) -> SliceSaid
     requires { ⌜ length (now value) ≤ 64 ⌝ }
-    ensures { λ r. ⌜ r ≡ rowOf (now (value .entry)) ⌝ }
+    ensures { λ r. ⌜ r ≡ sliceOf (now (value .entry)) ⌝ }
 {
     let mut specified: u64 = 0;
     let mut bits: u64 = 0;
@@ -51,10 +51,10 @@ pub fn row_of(value: &[u8]) -> Row
         i -= 1;
         let b = value[i];
         if !is_character(b) {
-            return Row::Nothing;
+            return SliceSaid::Nothing;
         }
         specified = specified * 2 + specified_at(b);
         bits = bits * 2 + bit_at(b);
     }
-    Row::Slice(TestSlice { specified, bits })
+    SliceSaid::Slice(TestSlice { specified, bits })
 }

@@ -1,2 +1,2 @@
--- The text call that encodes.
-pub mod EncodeText
+-- The reply to what a sheet says.
+pub mod Sheet

@@ -1,38 +1,36 @@
-// The text call that encodes (document 01, "Sheet and seed list"): from the bytes of a sheet to those of its seed list.
+// From the entries of a sheet to the bytes of its seed list (document 01, "Sheet and seed list").
+use text_entries::Part;
 use text_keys::Key;
-use text_order::Kind;
 use text_replies::Answer;
-use text_taken::Scanned;
 ghost use mathlib.Core.Path.{_≡_};
-ghost use Rattle.text_encode.specs.EncodeText.{encodeCall};
+ghost use Prim.Native.Nat.{_≤_};
+ghost use lib.ListN.{length};
+ghost use Rattle.text_keys.specs.declared.Key.the-variants as key;
+ghost use Rattle.text_entries.specs.Flat.{entriesIn};
+ghost use Rattle.text_entries.specs.Said.{numbersFor};
+ghost use Rattle.text_encode.specs.Sheet.{sheetReply};
+ghost use Rattle.text_replies.specs.Calls.{called};
 
-// Encodes a sheet into a lent buffer: the bytes of its seed list and how many seeds it has, or the refusal.
-pub fn encode_text(text: &[u8], out: &mut [u8]) -> Answer
-    ensures answer { λ r. ⌜ r ≡ encodeCall (now (text .entry)) (now (out .entry)) .answer ⌝ }
-    ensures buffer { λ _. ⌜ now (out .exit) ≡ encodeCall (now (text .entry)) (now (out .entry)) .buffer ⌝ }
+// Encodes what the entries of a sheet say.
+// An inner function: its callers show that there are at most 64 chain lines and 2,048 slice lines.
+pub fn encode_entries(entries: &[u64], out: &mut [u8]) -> Answer
+    requires { ⌜ (length (numbersFor key.Chain (entriesIn (now entries))) ≤ 64) × (length (numbersFor key.Slice (entriesIn (now entries))) ≤ 2048) ⌝ }
+    ensures answer { λ r. ⌜ r ≡ called (sheetReply (entriesIn (now (entries .entry)))) (now (out .entry)) .answer ⌝ }
+    ensures buffer { λ _. ⌜ now (out .exit) ≡ called (sheetReply (entriesIn (now (entries .entry)))) (now (out .entry)) .buffer ⌝ }
 {
-    let mut heads = [0u64; 9];
-    let mut tails = [0u64; 9];
     let mut masks = [0u64; machine_chains::MOST_CHAINS];
-    let mut firsts = [0u64; refusal_lengths::MOST_SLICES];
-    let mut seconds = [0u64; refusal_lengths::MOST_SLICES];
-    match text_reading::scan(
-        Kind::Sheet,
-        text,
-        &mut heads,
-        &mut tails,
-        &mut masks,
-        &mut firsts,
-        &mut seconds,
-    ) {
-        Scanned::Whole(place) => text_encode_said::encode_said(
-            text_entries::settings(&heads),
-            &masks[..place.masks],
-            text_entries::number(&heads, Key::Depth) as usize,
-            &firsts[..place.items],
-            &seconds[..place.items],
-            out,
-        ),
-        Scanned::Refused(refusal) => Answer::Refused(refusal),
-    }
+    let mut specified = [0u64; refusal_lengths::MOST_SLICES];
+    let mut bits = [0u64; refusal_lengths::MOST_SLICES];
+    let chains = text_entries::numbers(entries, Key::Chain, Part::First, &mut masks);
+    let slices = text_entries::numbers(entries, Key::Slice, Part::First, &mut specified);
+    text_entries::numbers(entries, Key::Slice, Part::Second, &mut bits);
+    let depth = text_entries::number(entries, Key::Depth, Part::First, 0);
+    text_encode_said::encode_said(
+        text_entries::settings(entries),
+        &masks[..chains],
+        depth as usize,
+        &specified[..slices],
+        &bits[..slices],
+        out,
+    )
 }

@@ -1,4 +1,4 @@
--- An encoding leaves its buffer as long as it was, and the text of its reply fits 145,408 bytes.
+-- An encoding leaves its buffer as long as it was, and the text of its reply has at most `mostText` bytes.
 --     plan-long, stopped-long, encode-long     the buffer
 --     list-within                              the text
 -- Assumes nothing.
@@ -27,6 +27,7 @@ use Rattle.encoder_cubes.specs.declared.Encoded.{Encoded}
 use Rattle.encoder_cubes.specs.declared.Encoded.the-variants as encodings
 use Rattle.text_write_list.proofs.Lengths.{list-length}
 use Rattle.text_encode_said.specs.Encoded.{listReply}
+use Rattle.text_bounds.proofs.Values.{text-value}
 use Rattle.text_replies.proofs.Space.{fill-long, Within}
 
 plan-long : (M : Machine) (R : Rules) (set : List TestSlice) (out : List ℕ) (p : Plan) → length (planned M R set out p .buffer) ≡ length out
@@ -54,5 +55,5 @@ pub list-within : (g : Settings) (masks : List ℕ) (slices : ℕ) (buffer : Lis
 unfolding listReply
 list-within g masks slices buffer (encodings.Seeds stop n) h e =
     let few : length (take n buffer) ≤ 2048 = omega (arith, length-take n buffer) in
-    omega (arith, list-length g masks stop slices (take n buffer) h few)
+    omega (arith, list-length g masks stop slices (take n buffer) h few, text-value)
 list-within g masks slices buffer (encodings.Refused c) h e = tt

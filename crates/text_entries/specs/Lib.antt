@@ -1,3 +1,3 @@
--- What the lines of a text say, and the lists that keep it.
+-- What the lines of a text say, and the list of numbers that keeps it.
 pub mod Said
-pub mod Kept
+pub mod Flat

@@ -1,58 +1,52 @@
 -- What the lines of a text say, by their keys (document 01, "Sheet and seed list").
---     entry k a b         the entry of a line with the key k and the numbers a and b
 --     keyIs k e           the entry e has the key k
---     itemIs e             the entry e is of an item
---     picked p f es       the numbers f of the entries of es that p picks, in order
+--     partOf p e          the first or the second number of the entry e
+--     picked k p es       those of the entries of es with the key k, in order
+--     numbersFor k es     the numbers for a key, or the specified positions of its slices
+--     bitsFor k es        the bits of its slices
 --     masksOf es          the masks that the chain lines say
---     itemsOf es           the seeds that the seed lines say, or the specified positions that the slice lines say
---     itemBitsOf es        the bits that the slice lines say
---     lastOr x l          the last of the list l, or x where it is empty
 --     numberFor k es      the number for a key that has one line
 --     sliceFor k es       the slice for such a key
 --     settingsOf es       the settings of the call
 use mathlib.Core.Bool.{Bool, true, false}
 use mathlib.Core.List.{List, [], _∷_}
 use Prim.Native.Nat.{ℕ}
+use lib.ListN.{getD}
 use Rattle.machine_settings.specs.declared.Settings.{Settings}
 use Rattle.machine_settings.specs.Machine.{base}
 use Rattle.machine_slices.specs.declared.TestSlice.{TestSlice}
 use Rattle.text_keys.specs.Keys.{same}
 use Rattle.text_keys.specs.declared.Key.{Key}
 use Rattle.text_keys.specs.declared.Key.the-variants as key
-use Rattle.text_place.specs.Places.{isItem}
-use Rattle.text_entries.specs.declared.Entry.{Entry}
-
-abbrev pub entry : Key → ℕ → ℕ → Entry
-entry k a b = record { key = k; first = a; second = b }
+use Rattle.text_lines.specs.declared.Entry.{Entry}
+use Rattle.text_entries.specs.declared.Part.{Part}
+use Rattle.text_entries.specs.declared.Part.the-variants.{First, Second}
 
 abbrev pub keyIs : Key → Entry → Bool
 keyIs k e = same (e .key) k
 
-abbrev pub itemIs : Entry → Bool
-itemIs e = isItem (e .key)
+abbrev pub partOf : Part → Entry → ℕ
+partOf First e = e .first
+partOf Second e = e .second
 
-unfoldable pub picked : (Entry → Bool) → (Entry → ℕ) → List Entry → List ℕ
-picked p f [] = []
-picked p f (e ∷ es) = elim (p e) [ true ↦ f e ∷ picked p f es | false ↦ picked p f es ]
+unfoldable pub picked : Key → Part → List Entry → List ℕ
+picked k p [] = []
+picked k p (e ∷ es) = elim (keyIs k e) [ true ↦ partOf p e ∷ picked k p es | false ↦ picked k p es ]
+
+abbrev pub numbersFor : Key → List Entry → List ℕ
+numbersFor k es = picked k First es
+
+abbrev pub bitsFor : Key → List Entry → List ℕ
+bitsFor k es = picked k Second es
 
 abbrev pub masksOf : List Entry → List ℕ
-masksOf es = picked (keyIs key.Chain) (λ e. e .first) es
-
-abbrev pub itemsOf : List Entry → List ℕ
-itemsOf es = picked itemIs (λ e. e .first) es
-
-abbrev pub itemBitsOf : List Entry → List ℕ
-itemBitsOf es = picked itemIs (λ e. e .second) es
-
-unfoldable pub lastOr : ℕ → List ℕ → ℕ
-lastOr x [] = x
-lastOr x (y ∷ ys) = lastOr y ys
+masksOf es = numbersFor key.Chain es
 
 abbrev pub numberFor : Key → List Entry → ℕ
-numberFor k es = lastOr 0 (picked (keyIs k) (λ e. e .first) es)
+numberFor k es = getD (numbersFor k es) 0 0
 
 abbrev pub sliceFor : Key → List Entry → TestSlice
-sliceFor k es = record { specified = numberFor k es; bits = lastOr 0 (picked (keyIs k) (λ e. e .second) es) }
+sliceFor k es = record { specified = numberFor k es; bits = getD (bitsFor k es) 0 0 }
 
 -- Windows have up to 256 slices.
 abbrev pub settingsOf : List Entry → Settings

@@ -1,80 +1,85 @@
-// What the lines of a text say, kept in lists (document 01, "Sheet and seed list").
+// What the lines of a text say, kept in one list of numbers (document 01, "Sheet and seed list"): for each line the rank of its key and its two numbers, one line after another. What a text says for a key is picked from it afterwards.
 use machine_settings::Settings;
 use text_keys::Key;
-use text_place::Place;
+use text_lines::Entry;
 ghost use mathlib.Core.Path.{_≡_};
 ghost use lib.ListN.{length, getD, set};
-ghost use Rattle.text_keys.specs.Keys.{rank as rankOf};
-ghost use Rattle.text_keys.specs.declared.Key.the-variants as key;
-ghost use Rattle.text_entries.specs.Kept.{storedIf, keptSettings};
-ghost use Rattle.text_entries.specs.Said.{keyIs, itemIs};
+ghost use lib.Seq.{sets};
+ghost use Rattle.text_entries.specs.Flat.{words, past, offset as offsetOf, entriesIn};
+ghost use Rattle.text_entries.specs.Said.{picked, settingsOf};
 
-// What an accepted line says: its key, and its number and 0 or its slice's two numbers.
-pub struct Entry {
-    pub key: Key,
-    pub first: u64,
-    pub second: u64,
+// Which of the two numbers of a line.
+pub enum Part {
+    First,
+    Second,
 }
 
-// Stores a number, where asked and where there is space.
-fn store(asked: bool, list: &mut [u64], i: usize, v: u64)
-    ensures { λ _. ⌜ now (list .exit) ≡ storedIf asked (now (list .entry)) i v ⌝ }
+// Stores a number, where there is space.
+fn store(list: &mut [u64], i: usize, v: u64)
+    ensures { λ _. ⌜ now (list .exit) ≡ set (now (list .entry)) i v ⌝ }
 {
-    if asked {
-        if i < list.len() {
-            list[i] = v;
-        }
+    if i < list.len() {
+        list[i] = v;
     }
 }
 
-// Keeps the numbers of a line: by the rank of its key, of a chain line among the masks, of an item among the items.
-pub fn keep(
-    entry: Entry,
-    place: Place,
-    heads: &mut [u64],
-    tails: &mut [u64],
-    masks: &mut [u64],
-    firsts: &mut [u64],
-    seconds: &mut [u64],
-)
-    ensures heads { λ _. ⌜ now (heads .exit) ≡ set (now (heads .entry)) (rankOf (entry .key)) (entry .first) ⌝ }
-    ensures tails { λ _. ⌜ now (tails .exit) ≡ set (now (tails .entry)) (rankOf (entry .key)) (entry .second) ⌝ }
-    ensures masks { λ _. ⌜ now (masks .exit) ≡ storedIf (keyIs key.Chain entry) (now (masks .entry)) (place .masks) (entry .first) ⌝ }
-    ensures firsts { λ _. ⌜ now (firsts .exit) ≡ storedIf (itemIs entry) (now (firsts .entry)) (place .items) (entry .first) ⌝ }
-    ensures seconds { λ _. ⌜ now (seconds .exit) ≡ storedIf (itemIs entry) (now (seconds .entry)) (place .items) (entry .second) ⌝ }
+// Keeps an entry from a place of the list on, as far as the list goes. The answer is the next place.
+pub fn keep(entry: Entry, list: &mut [u64], at: usize) -> usize
+    ensures next { λ r. ⌜ r ≡ past (length (now (list .entry))) at ⌝ }
+    ensures list { λ _. ⌜ now (list .exit) ≡ sets (now (list .entry)) at (words entry) ⌝ }
 {
+    if list.len() <= at {
+        return at;
+    }
     let key = entry.key;
-    let rank = text_keys::rank(key);
-    store(true, heads, rank, entry.first);
-    store(true, tails, rank, entry.second);
-    store(
-        text_place::same(key, Key::Chain),
-        masks,
-        place.masks,
-        entry.first,
-    );
-    let item = text_place::is_item(key);
-    store(item, firsts, place.items, entry.first);
-    store(item, seconds, place.items, entry.second);
+    store(list, at, text_keys::rank(key) as u64);
+    store(list, at + 1, entry.first);
+    store(list, at + 2, entry.second);
+    at + 3
 }
 
-// The number that is kept for a key.
-// An inner function: its callers show that there is a number for each of the 9 keys.
-pub fn number(numbers: &[u64], key: Key) -> u64
-    requires { ⌜ length (now numbers) ≡ 9 ⌝ }
-    ensures { λ r. ⌜ r ≡ getD (now (numbers .entry)) (rankOf key) 0 ⌝ }
+// Where a number of a line stands, after the line's first word.
+fn offset(part: Part) -> usize
+    ensures { λ r. ⌜ r ≡ offsetOf part ⌝ }
 {
-    numbers[text_keys::rank(key)]
+    match part {
+        Part::First => 1,
+        Part::Second => 2,
+    }
 }
 
-// The settings that the kept numbers say.
-// An inner function: its callers show that there is a number for each of the 9 keys.
-pub fn settings(numbers: &[u64]) -> Settings
-    requires { ⌜ length (now numbers) ≡ 9 ⌝ }
-    ensures { λ r. ⌜ r ≡ keptSettings (now (numbers .entry)) ⌝ }
+// Picks the numbers of the lines with a key, in order, into a list as far as it goes. The answer is how many there are.
+pub fn numbers(entries: &[u64], key: Key, part: Part, list: &mut [u64]) -> usize
+    ensures count { λ r. ⌜ r ≡ length (picked key part (entriesIn (now (entries .entry)))) ⌝ }
+    ensures list { λ _. ⌜ now (list .exit) ≡ sets (now (list .entry)) 0 (picked key part (entriesIn (now (entries .entry)))) ⌝ }
 {
-    machine_settings::base(
-        number(numbers, Key::Cells) as usize,
-        number(numbers, Key::Taps),
-    )
+    let mut count = 0;
+    let mut i = 0;
+    while 3 <= entries.len() - i {
+        if entries[i] == text_keys::rank(key) as u64 {
+            store(list, count, entries[i + offset(part)]);
+            count += 1;
+        }
+        i += 3;
+    }
+    count
+}
+
+// The number of the first line with a key, or another where there is no such line.
+pub fn number(entries: &[u64], key: Key, part: Part, absent: u64) -> u64
+    ensures { λ r. ⌜ r ≡ getD (picked key part (entriesIn (now (entries .entry)))) 0 absent ⌝ }
+{
+    let mut one = [0u64; 1];
+    one[0] = absent;
+    numbers(entries, key, part, &mut one);
+    one[0]
+}
+
+// The settings of the call that the lines say.
+pub fn settings(entries: &[u64]) -> Settings
+    ensures { λ r. ⌜ r ≡ settingsOf (entriesIn (now (entries .entry))) ⌝ }
+{
+    let cells = number(entries, Key::Cells, Part::First, 0);
+    let taps = number(entries, Key::Taps, Part::First, 0);
+    machine_settings::base(cells as usize, taps)
 }

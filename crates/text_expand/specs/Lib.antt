@@ -1,2 +1,2 @@
--- The text call that expands.
-pub mod ExpandText
+-- The reply to what a seed list says.
+pub mod List

@@ -1,45 +1,37 @@
-// The text call that expands (document 01, "Sheet and seed list"): from the bytes of a seed list to those of its slices.
+// From the entries of a seed list to the bytes of its slices (document 01, "Sheet and seed list").
 use machine_slices::TestSlice;
+use text_entries::Part;
 use text_keys::Key;
-use text_order::Kind;
 use text_replies::Answer;
-use text_taken::Scanned;
 ghost use mathlib.Core.Path.{_≡_};
-ghost use Rattle.text_expand.specs.ExpandText.{expandCall};
+ghost use Prim.Native.Nat.{_≤_};
+ghost use lib.ListN.{length};
+ghost use Rattle.text_keys.specs.declared.Key.the-variants as key;
+ghost use Rattle.text_entries.specs.Flat.{entriesIn};
+ghost use Rattle.text_entries.specs.Said.{numbersFor};
+ghost use Rattle.text_expand.specs.List.{seedListReply};
+ghost use Rattle.text_replies.specs.Calls.{called};
 
-// Expands a seed list into a lent buffer: the bytes of its slices and how many there are, or the refusal.
-pub fn expand_text(text: &[u8], out: &mut [u8]) -> Answer
-    ensures answer { λ r. ⌜ r ≡ expandCall (now (text .entry)) (now (out .entry)) .answer ⌝ }
-    ensures buffer { λ _. ⌜ now (out .exit) ≡ expandCall (now (text .entry)) (now (out .entry)) .buffer ⌝ }
+// Expands what the entries of a seed list say.
+// An inner function: its callers show that there are at most 64 chain lines and 2,048 seed lines.
+pub fn expand_entries(entries: &[u64], out: &mut [u8]) -> Answer
+    requires { ⌜ (length (numbersFor key.Chain (entriesIn (now entries))) ≤ 64) × (length (numbersFor key.Seed (entriesIn (now entries))) ≤ 2048) ⌝ }
+    ensures answer { λ r. ⌜ r ≡ called (seedListReply (entriesIn (now (entries .entry)))) (now (out .entry)) .answer ⌝ }
+    ensures buffer { λ _. ⌜ now (out .exit) ≡ called (seedListReply (entriesIn (now (entries .entry)))) (now (out .entry)) .buffer ⌝ }
 {
-    let mut heads = [0u64; 9];
-    let mut tails = [0u64; 9];
     let mut masks = [0u64; machine_chains::MOST_CHAINS];
-    let mut firsts = [0u64; refusal_lengths::MOST_SLICES];
-    let mut seconds = [0u64; refusal_lengths::MOST_SLICES];
-    match text_reading::scan(
-        Kind::SeedList,
-        text,
-        &mut heads,
-        &mut tails,
-        &mut masks,
-        &mut firsts,
-        &mut seconds,
-    ) {
-        Scanned::Whole(place) => {
-            let stop = TestSlice {
-                specified: text_entries::number(&heads, Key::Stop),
-                bits: text_entries::number(&tails, Key::Stop),
-            };
-            text_expand_said::expand_said(
-                text_entries::settings(&heads),
-                &masks[..place.masks],
-                stop,
-                text_entries::number(&heads, Key::Slices) as usize,
-                &firsts[..place.items],
-                out,
-            )
-        }
-        Scanned::Refused(refusal) => Answer::Refused(refusal),
-    }
+    let mut seeds = [0u64; refusal_lengths::MOST_SLICES];
+    let chains = text_entries::numbers(entries, Key::Chain, Part::First, &mut masks);
+    let count = text_entries::numbers(entries, Key::Seed, Part::First, &mut seeds);
+    let specified = text_entries::number(entries, Key::Stop, Part::First, 0);
+    let bits = text_entries::number(entries, Key::Stop, Part::Second, 0);
+    let slices = text_entries::number(entries, Key::Slices, Part::First, 0);
+    text_expand_said::expand_said(
+        text_entries::settings(entries),
+        &masks[..chains],
+        TestSlice { specified, bits },
+        slices as usize,
+        &seeds[..count],
+        out,
+    )
 }

@@ -1,4 +1,4 @@
--- An expanding leaves its buffer as long as it was, and the text of its reply fits 145,408 bytes.
+-- An expanding leaves its buffer as long as it was, and the text of its reply has at most `mostText` bytes.
 --     walk-long, expand-long     the buffer
 --     slices-within              the text
 -- Assumes nothing.
@@ -24,6 +24,7 @@ use Rattle.theory_covering.specs.Rules.{rules}
 use Rattle.expander_meaning.specs.Expanding.{Walk, ran, failed, totalled, expanding, expandList}
 use Rattle.text_write_slices.proofs.Slices.{slices-bound}
 use Rattle.text_expand_said.specs.Expanded.{slicesReply}
+use Rattle.text_bounds.proofs.Values.{text-value}
 use Rattle.text_replies.proofs.Space.{fill-long, Within}
 
 walk-long : (n : ℕ) (out : List ℕ) (w : Walk) → length (totalled n out w .buffer) ≡ length out
@@ -45,5 +46,5 @@ expand-long g masks stop n seeds out = go (judged (listFaults g masks stop n (le
 
 pub slices-within : (chains : ℕ) (buffer : List ℕ) (a : Written) → chains ≤ 64 → length buffer ≡ 2048 → Within (slicesReply chains buffer a)
 unfolding slicesReply
-slices-within chains buffer (written.Count n) h e = slices-bound chains (take n buffer) h (omega (arith, length-take n buffer))
+slices-within chains buffer (written.Count n) h e = omega (arith, slices-bound chains (take n buffer) h (omega (arith, length-take n buffer)), text-value)
 slices-within chains buffer (written.Refused c) h e = tt

@@ -1,2 +1,4 @@
 -- The laws of names, and the proofs of the functions.
-pub mod Begins
+pub mod Starting
+pub mod Naming
+pub mod Apart

@@ -1,8 +1,9 @@
 // The key with which a line begins (document 01, "Sheet and seed list": "Text lines are key=value").
 use text_keys::Key;
 ghost use mathlib.Core.Path.{_≡_};
+ghost use Prim.Native.Nat.{_<_};
 ghost use Rattle.text_key_of.specs.Begins.{starts as startsOf, keyOf};
-ghost use Rattle.text_keys.specs.Keys.{keys};
+ghost use Rattle.text_keys.specs.Keys.{rows, count, rowAt};
 
 // The key with which a line begins.
 pub enum Named {
@@ -27,36 +28,29 @@ fn starts(name: &[u8], line: &[u8]) -> bool
     true
 }
 
+// Whether a line begins with the name of the key at a place of the table.
+fn begins(i: usize, line: &[u8]) -> bool
+    requires { ⌜ i < count ⌝ }
+    ensures { λ r. ⌜ r ≡ startsOf (rowAt i .name) (now (line .entry)) ⌝ }
+{
+    let spelling = text_keys::spelling_at(i);
+    let name = spelling.1;
+    let size = spelling.2;
+    starts(&name[..size], line)
+}
+
 // The key with which a line begins.
 pub fn key_of(line: &[u8]) -> Named
-    ensures { λ r. ⌜ r ≡ keyOf keys (now (line .entry)) ⌝ }
+    ensures { λ r. ⌜ r ≡ keyOf rows (now (line .entry)) ⌝ }
 {
-    if starts(b"cells=", line) {
-        return Named::Known(Key::Cells);
-    }
-    if starts(b"taps=", line) {
-        return Named::Known(Key::Taps);
-    }
-    if starts(b"chains=", line) {
-        return Named::Known(Key::Chains);
-    }
-    if starts(b"chain=", line) {
-        return Named::Known(Key::Chain);
-    }
-    if starts(b"depth=", line) {
-        return Named::Known(Key::Depth);
-    }
-    if starts(b"slice=", line) {
-        return Named::Known(Key::Slice);
-    }
-    if starts(b"stop=", line) {
-        return Named::Known(Key::Stop);
-    }
-    if starts(b"slices=", line) {
-        return Named::Known(Key::Slices);
-    }
-    if starts(b"seed=", line) {
-        return Named::Known(Key::Seed);
+    let mut i = 0;
+    while i < text_keys::COUNT {
+        if begins(i, line) {
+            let spelling = text_keys::spelling_at(i);
+            let key = spelling.0;
+            return Named::Known(key);
+        }
+        i += 1;
     }
     Named::Unknown
 }

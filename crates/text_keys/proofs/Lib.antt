@@ -1,2 +1,2 @@
--- The laws of keys, and the proofs of the functions.
-pub mod Same
+-- The laws of the table, and the proofs of the functions.
+pub mod Table

@@ -1,7 +1,7 @@
-// The keys of lines (document 01, "Sheet and seed list": "Text lines are key=value"): their order, and how their values are written.
+// The keys of lines (document 01, "Sheet and seed list": "Text lines are key=value"). A key is a row of one table: how its lines are spelt, and what bounds them.
 ghost use mathlib.Core.Path.{_≡_};
-ghost use lib.ListN.{length};
-ghost use Rattle.text_keys.specs.Keys.{name as nameOf, rank as rankOf, notation as notationOf, longest as longestOf};
+ghost use Prim.Native.Nat.{_<_};
+ghost use Rattle.text_keys.specs.Keys.{count, rowAt, rowOf, spelling, bounds, rank as rankOf, same as sameOf};
 
 // The keys of the lines.
 pub enum Key {
@@ -23,7 +23,68 @@ pub enum Notation {
     Chainwise,
 }
 
-// The place of a key among all.
+// Which numbers a line may have.
+pub enum Range {
+    // From the first to the second.
+    Between(usize, usize),
+    // Taps of the register with the cells that were read.
+    Taps,
+    // A mask of its cells.
+    Mask,
+    // Some specified position.
+    Specified,
+    // All.
+    Any,
+}
+
+// Why a line is refused: its form or its order, or its own number's range.
+pub enum LineCause {
+    // Cause 13: out of form or out of order.
+    Form,
+    // Cause 1: cells or taps.
+    Register,
+    // Cause 2: chains or a mask.
+    Chains,
+    // Cause 3: depth or slices, or a slice or seed line too many.
+    Lengths,
+    // Cause 5: a stop slice with no specified position.
+    StopSlice,
+}
+
+// How the lines of a key are spelt: the key, its name with spaces behind it, the bytes of the name, how the value is written, and the most bytes of a line, its line feed included.
+pub struct Spelling(pub Key, pub [u8; 7], pub usize, pub Notation, pub usize);
+
+// What bounds the lines of a key: how many may stand in a row, which numbers they may have, and the cause of what is beyond.
+pub struct Bounds(pub usize, pub Range, pub LineCause);
+
+// How many keys there are.
+pub const COUNT: usize = 9;
+
+const SPELLINGS: [Spelling; COUNT] = [
+    Spelling(Key::Cells, *b"cells= ", 6, Notation::Decimal, 80),
+    Spelling(Key::Taps, *b"taps=  ", 5, Notation::Hexadecimal, 80),
+    Spelling(Key::Chains, *b"chains=", 7, Notation::Decimal, 80),
+    Spelling(Key::Chain, *b"chain= ", 6, Notation::Hexadecimal, 80),
+    Spelling(Key::Depth, *b"depth= ", 6, Notation::Decimal, 80),
+    Spelling(Key::Slice, *b"slice= ", 6, Notation::Chainwise, 80),
+    Spelling(Key::Stop, *b"stop=  ", 5, Notation::Chainwise, 80),
+    Spelling(Key::Slices, *b"slices=", 7, Notation::Decimal, 80),
+    Spelling(Key::Seed, *b"seed=  ", 5, Notation::Hexadecimal, 80),
+];
+
+const BOUNDS: [Bounds; COUNT] = [
+    Bounds(1, Range::Between(1, 64), LineCause::Register),
+    Bounds(1, Range::Taps, LineCause::Register),
+    Bounds(1, Range::Between(1, 64), LineCause::Chains),
+    Bounds(64, Range::Mask, LineCause::Chains),
+    Bounds(1, Range::Between(1, 256), LineCause::Lengths),
+    Bounds(2048, Range::Any, LineCause::Lengths),
+    Bounds(1, Range::Specified, LineCause::StopSlice),
+    Bounds(1, Range::Between(1, 2048), LineCause::Lengths),
+    Bounds(2048, Range::Any, LineCause::Lengths),
+];
+
+// The place of a key in the table.
 pub fn rank(key: Key) -> usize
     ensures { λ r. ⌜ r ≡ rankOf key ⌝ }
 {
@@ -40,43 +101,40 @@ pub fn rank(key: Key) -> usize
     }
 }
 
-// How the value of a key is written.
-pub fn notation_of(key: Key) -> Notation
-    ensures { λ r. ⌜ r ≡ notationOf key ⌝ }
+// Whether two keys are one.
+pub fn same(a: Key, b: Key) -> bool
+    ensures { λ r. ⌜ r ≡ sameOf a b ⌝ }
 {
-    match key {
-        Key::Cells => Notation::Decimal,
-        Key::Taps => Notation::Hexadecimal,
-        Key::Chains => Notation::Decimal,
-        Key::Chain => Notation::Hexadecimal,
-        Key::Depth => Notation::Decimal,
-        Key::Slice => Notation::Chainwise,
-        Key::Stop => Notation::Chainwise,
-        Key::Slices => Notation::Decimal,
-        Key::Seed => Notation::Hexadecimal,
-    }
+    rank(a) == rank(b)
 }
 
-// The bytes of a key's name.
-pub fn name_length(key: Key) -> usize
-    ensures { λ r. ⌜ r ≡ length (nameOf key) ⌝ }
+// How the lines of the key at a place of the table are spelt.
+// An inner function: its callers show that there is such a place.
+pub fn spelling_at(i: usize) -> Spelling
+    requires { ⌜ i < count ⌝ }
+    ensures { λ r. ⌜ r ≡ spelling (rowAt i) ⌝ }
 {
-    match key {
-        Key::Cells => 6,
-        Key::Taps => 5,
-        Key::Chains => 7,
-        Key::Chain => 6,
-        Key::Depth => 6,
-        Key::Slice => 6,
-        Key::Stop => 5,
-        Key::Slices => 7,
-        Key::Seed => 5,
-    }
+    SPELLINGS[i]
 }
 
-// The most bytes of a line with a key, its line feed included.
-pub fn longest(_key: Key) -> usize
-    ensures { λ r. ⌜ r ≡ longestOf «_key» ⌝ }
+// How the lines of a key are spelt.
+pub fn spelling_of(key: Key) -> Spelling
+    ensures { λ r. ⌜ r ≡ spelling (rowOf key) ⌝ }
 {
-    80
+    spelling_at(rank(key))
+}
+
+// What bounds the lines of the key at a place of the table.
+fn bounds_at(i: usize) -> Bounds
+    requires { ⌜ i < count ⌝ }
+    ensures { λ r. ⌜ r ≡ bounds (rowAt i) ⌝ }
+{
+    BOUNDS[i]
+}
+
+// What bounds the lines of a key.
+pub fn bounds_of(key: Key) -> Bounds
+    ensures { λ r. ⌜ r ≡ bounds (rowOf key) ⌝ }
+{
+    bounds_at(rank(key))
 }

@@ -10,15 +10,15 @@ use Prim.Native.Nat.{ℕ, _+_, _≤_, _<_}
 use native.Mathlib.Omega.{arith}
 use borrow.Author.Tests.{le-leb, lt-leb, eq-eqb, ne-eqb}
 use lib.ListN.{length, drop}
-use Rattle.text_keys.specs.Keys.{name, keys, notation, longest}
+use Rattle.text_keys.specs.Keys.{rows, name, notation, longest}
 use Rattle.text_key_of.specs.Begins.{keyOf}
 use Rattle.text_keys.specs.declared.Key.{Key}
 use Rattle.text_key_of.specs.declared.Named.the-variants.{Known, Unknown}
 use Rattle.text_keys.specs.declared.Notation.the-variants.{Decimal, Hexadecimal, Chainwise}
 use Rattle.text_numbers.specs.Numbers.{number}
-use Rattle.text_characters.specs.Characters.{rowOf}
+use Rattle.text_characters.specs.Characters.{sliceOf}
 use Rattle.text_lines.specs.Form.{numbered, sliced, characters, valued, keyed, named, formed}
-use Rattle.text_lines.specs.declared.LineCause.the-variants.{Form}
+use Rattle.text_keys.specs.declared.LineCause.the-variants.{Form}
 use Rattle.text_lines.specs.declared.Line.the-variants.{Refused}
 
 module _ (chains : ℕ) (k : Key) (l : List ℕ) where
@@ -30,7 +30,7 @@ module _ (chains : ℕ) (k : Key) (l : List ℕ) where
   unfolding characters
   characters-other h e = rw (le-leb _ _ h, ne-eqb _ _ e, characters)
 
-  pub characters-right : length l ≤ 64 → length l ≡ chains → characters chains k l ≡ sliced k (rowOf l)
+  pub characters-right : length l ≤ 64 → length l ≡ chains → characters chains k l ≡ sliced k (sliceOf l)
   unfolding characters
   characters-right h e = rw (le-leb _ _ h, eq-eqb _ _ e, characters)
 
@@ -54,10 +54,10 @@ module _ (chains : ℕ) (k : Key) (l : List ℕ) where
   unfolding keyed
   keyed-value h = rw (le-leb (length l + 1) (longest k) (omega arith), keyed)
 
-  pub formed-known : keyOf keys l ≡ Known k → formed chains l ≡ keyed chains k l
+  pub formed-known : keyOf rows l ≡ Known k → formed chains l ≡ keyed chains k l
   unfolding formed named
   formed-known e = rw (e, named)
 
-pub formed-unknown : (chains : ℕ) (l : List ℕ) → keyOf keys l ≡ Unknown → formed chains l ≡ Refused Form
+pub formed-unknown : (chains : ℕ) (l : List ℕ) → keyOf rows l ≡ Unknown → formed chains l ≡ Refused Form
 unfolding formed named
 formed-unknown chains l e = rw (e, named)

@@ -1,32 +1,25 @@
-// What one line of a text says by its form (document 01, "Sheet and seed list"): a number for its key, a slice for its key, or a refusal.
-use machine_slices::TestSlice;
-use text_characters::Row;
+// What one line of a text says by its form (document 01, "Sheet and seed list"): a number or a slice for its key, or a refusal.
+use text_characters::SliceSaid;
 use text_key_of::Named;
 use text_keys::Key;
+use text_keys::LineCause;
 use text_keys::Notation;
+use text_keys::Spelling;
 use text_numbers::Numeral;
 ghost use mathlib.Core.Path.{_≡_};
 ghost use lib.ListN.{drop};
 ghost use Rattle.text_lines.specs.Form.{numbered as numberedOf, sliced as slicedOf, characters as charactersOf, valued as valuedOf, keyed as keyedOf, formed as formedOf};
 
-// Why a line is refused: its form or its order, or its own number's range.
-pub enum LineCause {
-    // Cause 13: out of form or out of order.
-    Form,
-    // Cause 1: cells or taps.
-    Register,
-    // Cause 2: chains or a mask.
-    Chains,
-    // Cause 3: depth or slices, or a slice or seed line too many.
-    Lengths,
-    // Cause 5: a stop slice with no specified position.
-    StopSlice,
+// What an accepted line says: its key, and its number and 0 or its slice's two numbers.
+pub struct Entry {
+    pub key: Key,
+    pub first: u64,
+    pub second: u64,
 }
 
-// What a line says: a number for its key, a slice for its key, or a refusal with its cause.
+// What a line says: its entry, or the cause of its refusal.
 pub enum Line {
-    Number(Key, u64),
-    Slice(Key, TestSlice),
+    Said(Entry),
     Refused(LineCause),
 }
 
@@ -35,18 +28,26 @@ fn numbered(key: Key, numeral: Numeral) -> Line
     ensures { λ r. ⌜ r ≡ numberedOf key «numeral» ⌝ }
 {
     match numeral {
-        Numeral::Value(v) => Line::Number(key, v),
+        Numeral::Value(v) => Line::Said(Entry {
+            key,
+            first: v,
+            second: 0,
+        }),
         Numeral::Nothing => Line::Refused(LineCause::Form),
     }
 }
 
 // The slice for its key.
-fn sliced(key: Key, row: Row) -> Line
-    ensures { λ r. ⌜ r ≡ slicedOf key row ⌝ }
+fn sliced(key: Key, said: SliceSaid) -> Line
+    ensures { λ r. ⌜ r ≡ slicedOf key said ⌝ }
 {
-    match row {
-        Row::Slice(slice) => Line::Slice(key, slice),
-        Row::Nothing => Line::Refused(LineCause::Form),
+    match said {
+        SliceSaid::Slice(slice) => Line::Said(Entry {
+            key,
+            first: slice.specified,
+            second: slice.bits,
+        }),
+        SliceSaid::Nothing => Line::Refused(LineCause::Form),
     }
 }
 
@@ -60,14 +61,15 @@ fn characters(chains: usize, key: Key, value: &[u8]) -> Line
     if value.len() != chains {
         return Line::Refused(LineCause::Form);
     }
-    sliced(key, text_characters::row_of(value))
+    sliced(key, text_characters::slice_of(value))
 }
 
 // What a value says for its key.
 fn valued(chains: usize, key: Key, value: &[u8]) -> Line
     ensures { λ r. ⌜ r ≡ valuedOf chains key (now (value .entry)) ⌝ }
 {
-    match text_keys::notation_of(key) {
+    let Spelling(_, _, _, notation, _) = text_keys::spelling_of(key);
+    match notation {
         Notation::Decimal => numbered(key, text_numbers::number(10, 4, value)),
         Notation::Hexadecimal => numbered(key, text_numbers::number(16, 16, value)),
         Notation::Chainwise => characters(chains, key, value),
@@ -89,10 +91,11 @@ fn tail(line: &[u8], n: usize) -> &[u8]
 fn keyed(chains: usize, key: Key, line: &[u8]) -> Line
     ensures { λ r. ⌜ r ≡ keyedOf chains key (now (line .entry)) ⌝ }
 {
-    if text_keys::longest(key) <= line.len() {
+    let Spelling(_, _, size, _, longest) = text_keys::spelling_of(key);
+    if longest <= line.len() {
         return Line::Refused(LineCause::Form);
     }
-    valued(chains, key, tail(line, text_keys::name_length(key)))
+    valued(chains, key, tail(line, size))
 }
 
 // What a line, without its line feed, says by its form.

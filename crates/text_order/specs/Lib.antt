@@ -1,2 +1,3 @@
--- The order of the lines of a text.
+-- The order of the lines of a text, and sets of keys.
 pub mod Order
+pub mod Sets

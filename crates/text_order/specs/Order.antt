@@ -1,40 +1,61 @@
 -- The order of lines (document 01, "Sheet and seed list").
---     afterChains kind      the key after the chain lines
---     afterMask kind p      the key after one chain line more
---     onTo p k              the place where the key k is due
---     afterItem p k          the same after one item more
---     moved kind p k v      the place after a line with the key k and the number v
-use mathlib.Core.Bool.{true, false}
-use Prim.Native.Nat.{ℕ, _+_}
-use lib.Dec.{ltb}
+--     after kind k         the keys that may stand after the lines of the key k
+--     missing p            chain lines are missing
+--     mayStand kind p      the keys that may stand at the place p
+--     among k ks           the key k is one of ks
+--     inOrder kind p k     a line with the key k may stand at the place p
+--     lastKeys kind        the keys after whose lines a text may end
+--     mayEnd kind p        the text may end there
+use mathlib.Core.Bool.{Bool, true, false, _&&_, _||_}
+use mathlib.Core.List.{List, [], _∷_}
+use Prim.Native.Nat.{ℕ}
+use lib.Dec.{eqb, ltb}
+use Rattle.text_keys.specs.Keys.{same}
 use Rattle.text_keys.specs.declared.Key.{Key}
 use Rattle.text_keys.specs.declared.Key.the-variants as key
 use Rattle.text_order.specs.declared.Kind.{Kind}
-use Rattle.text_order.specs.declared.Kind.the-variants as kinds
+use Rattle.text_order.specs.declared.Kind.the-variants.{Sheet, SeedList}
 use Rattle.text_place.specs.declared.Place.{Place}
 
-unfoldable pub afterChains : Kind → Key
-afterChains kinds.Sheet = key.Depth
-afterChains kinds.SeedList = key.Stop
+-- A sheet has depth and then slice lines, a seed list stop and slices and then seed lines; any number of them.
+unfoldable pub after : Kind → Key → List Key
+after kind key.Cells = key.Taps ∷ []
+after kind key.Taps = key.Chains ∷ []
+after kind key.Chains = key.Chain ∷ []
+after Sheet key.Chain = key.Depth ∷ []
+after Sheet key.Depth = key.Slice ∷ []
+after Sheet key.Slice = key.Slice ∷ []
+after Sheet key.Stop = []
+after Sheet key.Slices = []
+after Sheet key.Seed = []
+after SeedList key.Chain = key.Stop ∷ []
+after SeedList key.Depth = []
+after SeedList key.Slice = []
+after SeedList key.Stop = key.Slices ∷ []
+after SeedList key.Slices = key.Seed ∷ []
+after SeedList key.Seed = key.Seed ∷ []
 
 -- One chain line per chain.
-unfoldable pub afterMask : Kind → Place → Key
-afterMask kind p = elim (ltb (p .masks + 1) (p .chains)) [ true ↦ key.Chain | false ↦ afterChains kind ]
+unfoldable pub missing : Place → Bool
+missing p = same (p .last) key.Chain && ltb (p .run) (p .chains)
 
-abbrev pub onTo : Place → Key → Place
-onTo p k = record { due = k; cells = p .cells; chains = p .chains; masks = p .masks; items = p .items }
+unfoldable pub mayStand : Kind → Place → List Key
+mayStand kind p = elim (eqb (p .run) 0) [
+  | true ↦ key.Cells ∷ []
+  | false ↦ elim (missing p) [ true ↦ key.Chain ∷ [] | false ↦ after kind (p .last) ]
+]
 
-abbrev pub afterItem : Place → Key → Place
-afterItem p k = record { due = k; cells = p .cells; chains = p .chains; masks = p .masks; items = p .items + 1 }
+unfoldable pub among : Key → List Key → Bool
+among k [] = false
+among k (j ∷ ks) = same k j || among k ks
 
--- The fixed order of keys, with any number of slice or seed lines.
-unfoldable pub moved : Kind → Place → Key → ℕ → Place
-moved kind p key.Cells v = record { due = key.Taps; cells = v; chains = p .chains; masks = p .masks; items = p .items }
-moved kind p key.Taps v = onTo p key.Chains
-moved kind p key.Chains v = record { due = key.Chain; cells = p .cells; chains = v; masks = p .masks; items = p .items }
-moved kind p key.Chain v = record { due = afterMask kind p; cells = p .cells; chains = p .chains; masks = p .masks + 1; items = p .items }
-moved kind p key.Depth v = onTo p key.Slice
-moved kind p key.Slice v = afterItem p key.Slice
-moved kind p key.Stop v = onTo p key.Slices
-moved kind p key.Slices v = onTo p key.Seed
-moved kind p key.Seed v = afterItem p key.Seed
+unfoldable pub inOrder : Kind → Place → Key → Bool
+inOrder kind p k = among k (mayStand kind p)
+
+-- A sheet without a slice line and a list without a seed line are read, and refused over the whole.
+abbrev pub lastKeys : Kind → List Key
+lastKeys Sheet = key.Depth ∷ key.Slice ∷ []
+lastKeys SeedList = key.Slices ∷ key.Seed ∷ []
+
+unfoldable pub mayEnd : Kind → Place → Bool
+mayEnd kind p = among (p .last) (lastKeys kind)

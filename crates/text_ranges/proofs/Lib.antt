@@ -1,2 +1,3 @@
 -- The laws of what a line says at a place, and the proofs of the functions.
 pub mod Ranging
+pub mod Accepting

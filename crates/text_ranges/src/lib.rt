@@ -1,73 +1,61 @@
-// What a line says at a place (document 01, "Sheet and seed list"): it must have the key that is due there, and its own number in range.
+// What a line says at a place (document 01, "Sheet and seed list"): its key must be one that may stand there, and its own number in range.
+use text_keys::Bounds;
 use text_keys::Key;
+use text_keys::LineCause;
+use text_keys::Range;
+use text_lines::Entry;
 use text_lines::Line;
-use text_lines::LineCause;
+use text_order::Kind;
 use text_place::Place;
 ghost use mathlib.Core.Path.{_≡_};
-ghost use Rattle.text_ranges.specs.Ranges.{outOfRange, rangeCause, tested as testedOf, ranged as rangedOf, saying as sayingOf};
+ghost use Rattle.text_ranges.specs.Ranges.{outside as outsideOf, outOfRange, tested as testedOf, saying as sayingOf};
 
-// Whether a line's own number is out of its range.
+// Whether a number is outside a range.
+fn outside(place: Place, range: Range, v: u64) -> bool
+    ensures { λ r. ⌜ r ≡ outsideOf place range v ⌝ }
+{
+    match range {
+        Range::Between(least, most) => !words_bounded::within(least, most, v as usize),
+        Range::Taps => machine_register::bad_register(place.cells, v),
+        Range::Mask => machine_chains::bad_mask(place.cells, v),
+        Range::Specified => v == 0,
+        Range::Any => false,
+    }
+}
+
+// Whether a line is out of range: one too many of its key, or its own number.
 fn out_of_range(place: Place, key: Key, v: u64) -> bool
     ensures { λ r. ⌜ r ≡ outOfRange place key v ⌝ }
 {
-    match key {
-        Key::Cells => !words_bounded::within(1, machine_register::Register::MOST_CELLS, v as usize),
-        Key::Taps => machine_register::bad_register(place.cells, v),
-        Key::Chains => machine_chains::bad_count(v as usize),
-        Key::Chain => machine_chains::bad_mask(place.cells, v),
-        Key::Depth => !words_bounded::within(1, refusal_lengths::MOST_DEPTH, v as usize),
-        Key::Slice => refusal_lengths::MOST_SLICES <= place.items,
-        Key::Stop => v == 0,
-        Key::Slices => refusal_lengths::bad_set(v as usize),
-        Key::Seed => refusal_lengths::MOST_SLICES <= place.items,
+    let Bounds(most, range, _) = text_keys::bounds_of(key);
+    if most <= text_place::run_of(place, key) {
+        return true;
     }
+    outside(place, range, v)
 }
 
-// The cause of a number out of range.
-fn range_cause(key: Key) -> LineCause
-    ensures { λ r. ⌜ r ≡ rangeCause key ⌝ }
+// What a line says at a place, where it says this by its form.
+fn tested(kind: Kind, place: Place, entry: Entry) -> Line
+    ensures { λ r. ⌜ r ≡ testedOf kind place entry ⌝ }
 {
-    match key {
-        Key::Cells => LineCause::Register,
-        Key::Taps => LineCause::Register,
-        Key::Chains => LineCause::Chains,
-        Key::Chain => LineCause::Chains,
-        Key::Depth => LineCause::Lengths,
-        Key::Slice => LineCause::Lengths,
-        Key::Stop => LineCause::StopSlice,
-        Key::Slices => LineCause::Lengths,
-        Key::Seed => LineCause::Lengths,
-    }
-}
-
-// What a line with a key and a number says at a place, where it says this by its form.
-fn tested(place: Place, key: Key, v: u64, said: Line) -> Line
-    ensures { λ r. ⌜ r ≡ testedOf place key v said ⌝ }
-{
-    let due = place.due;
-    if !text_place::same(key, due) {
+    let key = entry.key;
+    if !text_order::in_order(kind, place, key) {
         return Line::Refused(LineCause::Form);
     }
-    if out_of_range(place, key, v) {
-        return Line::Refused(range_cause(key));
+    if out_of_range(place, key, entry.first) {
+        let Bounds(_, _, cause) = text_keys::bounds_of(key);
+        return Line::Refused(cause);
     }
-    said
-}
-
-// The same of what a line says by its form.
-fn ranged(place: Place, said: Line) -> Line
-    ensures { λ r. ⌜ r ≡ rangedOf place said ⌝ }
-{
-    match said {
-        Line::Number(key, v) => tested(place, key, v, said),
-        Line::Slice(key, slice) => tested(place, key, slice.specified, said),
-        Line::Refused(cause) => Line::Refused(cause),
-    }
+    Line::Said(entry)
 }
 
 // What a line, without its line feed, says at a place.
-pub fn saying(place: Place, line: &[u8]) -> Line
-    ensures { λ r. ⌜ r ≡ sayingOf place (now (line .entry)) ⌝ }
+pub fn saying(kind: Kind, place: Place, line: &[u8]) -> Line
+    ensures { λ r. ⌜ r ≡ sayingOf kind place (now (line .entry)) ⌝ }
 {
-    ranged(place, text_lines::formed(place.chains, line))
+    let said = text_lines::formed(place.chains, line);
+    let Line::Said(entry) = said else {
+        return said;
+    };
+    tested(kind, place, entry)
 }

@@ -1,72 +1,108 @@
 -- The chain lines and the seed lines of a list, in front of a text that is read through.
---     chainDue chains m     the key that is due after m of so many chain lines
---     chain-due, stop-due     which it is before the last of them, and after it
---     mask-word             a mask that is not refused is a word
---     masks-read            the chain lines from a place on
---     seeds-read            the seed lines from a place on
+--     placeAt k r cells chains     the place after r lines with the key k
+--     accepted-at      a line that may stand there, is none too many of its key, and has its number in range, is accepted
+--     mask-word        a mask that is not refused is a word
+--     masks-read       the chain lines from a place on
+--     seeds-read       the seed lines from a place on
 -- Assumes nothing.
 use mathlib.Core.Bool.{true, false}
-use mathlib.Core.Path.{_≡_, refl}
+use mathlib.Core.Path.{_≡_, refl, _∙_}
 use mathlib.Core.List.{List, [], _∷_, _++_, map, append-assoc}
-use Prim.Native.Nat.{ℕ, suc, _+_, _≤_, _<_}
-use native.Mathlib.Nat.{add-zero}
+use Prim.Native.Nat.{ℕ, _+_, _≤_, _<_}
 use native.Mathlib.Omega.{arith}
-use borrow.Author.Tests.{lt-ltb, le-ltb, lt-leb}
-use lib.Dec.{eqb, ltb}
+use borrow.Author.Tests.{lt-ltb, le-ltb, ne-eqb}
+use lib.Dec.{eqb}
 use lib.ListN.{length}
 use Rattle.words_bounded.specs.Bounded.{any}
 use Rattle.words_bounded.proofs.Tests.{neither}
 use Rattle.words_gf2.specs.Words.{beyond}
 use Rattle.words_gf2.proofs.Digits.{no-beyond, beyond-wide}
 use Rattle.machine_chains.specs.Chains.{badMask}
-use Rattle.text_keys.specs.Keys.{name, rank, same, notation}
+use Rattle.text_keys.specs.Keys.{rows, rowAt, name, same, notation, most, range}
 use Rattle.text_keys.specs.declared.Key.{Key}
+use Rattle.text_keys.proofs.Table.{same-self}
 use Rattle.text_keys.specs.declared.Key.the-variants as key
-use Rattle.text_place.specs.Places.{isItem}
-use Rattle.text_ranges.specs.Ranges.{outOfRange}
-use Rattle.text_order.specs.Order.{afterChains, afterMask, moved}
+use Rattle.text_lines.specs.Form.{entry}
+use Rattle.text_lines.specs.declared.Entry.{Entry}
+use Rattle.text_order.specs.Order.{after, missing, mayStand, among, inOrder, mayEnd}
+use Rattle.text_order.proofs.Standing.{missing-more, missing-none, stand-chain, stand-after}
+use Rattle.text_order.specs.declared.Kind.{Kind}
+use Rattle.text_order.specs.declared.Kind.the-variants.{SeedList}
+use Rattle.text_place.specs.Places.{runOf, moved}
 use Rattle.text_place.specs.declared.Place.{Place}
-use Rattle.text_entries.specs.declared.Entry.{Entry}
-use Rattle.text_reading.proofs.Counting.{placeAt}
+use Rattle.text_place.proofs.Runs.{run-here}
+use Rattle.text_ranges.specs.Ranges.{outside}
+use Rattle.text_ranges.proofs.Ranging.{range-own}
+use Rattle.text_ranges.proofs.Accepting.{Accepted}
 use Rattle.text_write_numbers.specs.Lines.{numberLine, numberLines}
-use Rattle.text_entries.specs.Said.{entry}
-use Rattle.text_readback.proofs.Forms.{hexadecimal-formed}
-use Rattle.text_readback.proofs.Lines.{Reads, reads-end, number-reads}
+use Rattle.text_readback.specs.Written.{value, written}
+use Rattle.text_readback.proofs.Lines.{Reads, reads-end, line-reads}
 
-pub chainDue : ℕ → ℕ → Key
-chainDue chains m = elim (ltb m chains) [ true ↦ key.Chain | false ↦ key.Stop ]
+abbrev pub placeAt : Key → ℕ → ℕ → ℕ → Place
+placeAt k r cells chains = record { last = k; run = r; cells = cells; chains = chains }
 
-module _ (chains : ℕ) where
-  pub chain-due : (m : ℕ) → m < chains → chainDue chains m ≡ key.Chain
-  unfolding chainDue
-  chain-due m h = rw (lt-ltb m chains h, chainDue)
-
-  stop-due : chainDue chains chains ≡ key.Stop
-  unfolding chainDue
-  stop-due = rw (le-ltb chains chains (omega arith), chainDue)
+pub accepted-at : (kind : Kind) (p : Place) (e : Entry) → inOrder kind p (e .key) ≡ true → runOf p (e .key) < most (e .key) → outside p (range (e .key)) (e .first) ≡ false → Accepted kind p e
+accepted-at kind p e o f r = record { order = o; ranges = range-own p (e .key) (e .first) f ∙ r }
 
 module _ (cells chains : ℕ) where
   mask-word : (m : ℕ) → cells ≤ 64 → badMask cells m ≡ false → beyond 64 m ≡ false
   unfolding badMask
   mask-word m few b = beyond-wide cells 64 m few (no-beyond cells m (neither (eqb m 0) (beyond cells m) b .1))
 
-  module _ (few : cells ≤ 64) (t : List ℕ) (es : List Entry) (q : Place) (r : Reads (placeAt key.Stop cells chains chains 0) t es q) where
-    pub masks-read : (ms : List ℕ) (n : ℕ) → n + length ms ≡ chains → any (badMask cells) ms ≡ false
-        → Reads (placeAt (chainDue chains n) cells chains n 0) (numberLines 16 (name key.Chain) ms ++ t) (map (λ m. entry key.Chain m 0) ms ++ es) q
-    unfolding numberLines any notation outOfRange moved afterMask afterChains chainDue
-    masks-read [] n c b = let e : n ≡ chains = omega arith in rw (e, stop-due chains) r
-    masks-read (m ∷ ms) n c b =
-        let a = neither (badMask cells m) (any (badMask cells) ms) b in
-        let l : n < chains = omega arith in
-        rw (chain-due chains n l, append-assoc (numberLine 16 (name key.Chain) m) (numberLines 16 (name key.Chain) ms) t)
-        (number-reads key.Chain cells chains n 0 q _ _ 16 m (hexadecimal-formed chains key.Chain refl m (mask-word m few (a .0))) (a .0) (masks-read ms (n + 1) (omega arith) (a .1)))
+  module _ (r : ℕ) (pos : 0 < r) where
+    -- The place after r chain lines.
+    abbrev here : Place
+    here = placeAt key.Chain r cells chains
 
-  module _ (masks : ℕ) where
-    pub seeds-read : (ss : List ℕ) (n : ℕ) → n + length ss ≤ 2048 → any (beyond 64) ss ≡ false
-        → Reads (placeAt key.Seed cells chains masks n) (numberLines 16 (name key.Seed) ss) (map (λ s. entry key.Seed s 0) ss) (placeAt key.Seed cells chains masks (n + length ss))
-    unfolding numberLines any notation outOfRange moved isItem same rank
-    seeds-read [] n h b = rw add-zero (reads-end (placeAt key.Seed cells chains masks n) refl)
-    seeds-read (s ∷ ss) n h b =
-        let a = neither (beyond 64 s) (any (beyond 64) ss) b in
-        let e : n + suc (length ss) ≡ n + 1 + length ss = omega arith in
-        rw e (number-reads key.Seed cells chains masks n _ _ _ 16 s (hexadecimal-formed chains key.Seed refl s (a .0)) (lt-leb 2048 n (omega arith)) (seeds-read ss (n + 1) (omega arith) (a .1)))
+    chain-next : r < chains → inOrder SeedList here key.Chain ≡ true
+    unfolding inOrder among same
+    chain-next h = rw (stand-chain here SeedList (ne-eqb r 0 (λ e. omega arith)) (missing-more here refl ∙ lt-ltb r chains h))
+
+    pub stop-next : r ≡ chains → inOrder SeedList here key.Stop ≡ true
+    unfolding inOrder among same after
+    stop-next e = rw (stand-after here SeedList (ne-eqb r 0 (λ z. omega arith)) (missing-more here refl ∙ le-ltb r chains (omega arith)))
+
+  module _ (few : cells ≤ 64) (some : 1 ≤ chains) (most-chains : chains ≤ 64) (t : List ℕ) (es : List Entry) (next : Reads SeedList (placeAt key.Chain chains cells chains) t es) where
+    more-masks : (ms : List ℕ) (r : ℕ) → 0 < r → r + length ms ≡ chains → any (badMask cells) ms ≡ false
+        → Reads SeedList (placeAt key.Chain r cells chains) (numberLines 16 (name key.Chain) ms ++ t) (map (λ m. entry key.Chain m 0) ms ++ es)
+    unfolding numberLines numberLine any written value notation range most rowAt rows outside runOf moved same
+    more-masks [] r pos c b = let e : r ≡ chains = omega arith in rw e next
+    more-masks (m ∷ ms) r pos c b =
+        let a = neither (badMask cells m) (any (badMask cells) ms) b in
+        let p = placeAt key.Chain r cells chains in
+        rw (append-assoc (numberLine 16 (name key.Chain) m) (numberLines 16 (name key.Chain) ms) t)
+        (line-reads SeedList p (entry key.Chain m 0) (accepted-at SeedList p (entry key.Chain m 0) (chain-next r pos (omega arith)) (omega arith) (a .0)) (mask-word m few (a .0), refl) _ _ (more-masks ms (r + 1) (omega arith) (omega arith) (a .1)))
+
+    pub masks-read : (ms : List ℕ) → length ms ≡ chains → any (badMask cells) ms ≡ false
+        → Reads SeedList (placeAt key.Chains 1 cells chains) (numberLines 16 (name key.Chain) ms ++ t) (map (λ m. entry key.Chain m 0) ms ++ es)
+    unfolding numberLines numberLine any written value notation range most rowAt rows outside runOf moved same inOrder mayStand missing after among
+    masks-read [] c b = absurd (omega arith)
+    masks-read (m ∷ ms) c b =
+        let a = neither (badMask cells m) (any (badMask cells) ms) b in
+        let p = placeAt key.Chains 1 cells chains in
+        rw (append-assoc (numberLine 16 (name key.Chain) m) (numberLines 16 (name key.Chain) ms) t)
+        (line-reads SeedList p (entry key.Chain m 0) (accepted-at SeedList p (entry key.Chain m 0) refl (omega arith) (a .0)) (mask-word m few (a .0), refl) _ _ (more-masks ms 1 (omega arith) (omega arith) (a .1)))
+
+-- ---- seed lines
+
+-- After a seed line another may stand.
+seed-next : (p : Place) (v : ℕ) → inOrder SeedList (moved p key.Seed v) key.Seed ≡ true
+unfolding inOrder among same after moved
+seed-next p v = let q = moved p key.Seed v in rw (stand-after q SeedList (ne-eqb (runOf p key.Seed + 1) 0 (λ e. omega arith)) (missing-none q refl))
+
+seed-run : (p : Place) (v : ℕ) → runOf (moved p key.Seed v) key.Seed ≡ runOf p key.Seed + 1
+unfolding moved
+seed-run p v = run-here (moved p key.Seed v) key.Seed (same-self key.Seed)
+
+seed-last : (p : Place) (v : ℕ) → mayEnd SeedList (moved p key.Seed v) ≡ true
+unfolding mayEnd among same moved
+seed-last p v = refl
+
+pub seeds-read : (ss : List ℕ) (p : Place) → inOrder SeedList p key.Seed ≡ true → mayEnd SeedList p ≡ true → runOf p key.Seed + length ss ≤ 2048 → any (beyond 64) ss ≡ false
+    → Reads SeedList p (numberLines 16 (name key.Seed) ss) (map (λ s. entry key.Seed s 0) ss)
+unfolding numberLines numberLine any written value notation range most rowAt rows outside
+seeds-read [] p o l h b = reads-end SeedList p l
+seeds-read (s ∷ ss) p o l h b =
+    let a = neither (beyond 64 s) (any (beyond 64) ss) b in
+    let q = seed-run p s in
+    line-reads SeedList p (entry key.Seed s 0) (accepted-at SeedList p (entry key.Seed s 0) o (omega arith) refl) (a .0, refl) _ _ (seeds-read ss (moved p key.Seed s) (seed-next p s) (seed-last p s) (omega arith) (a .1))

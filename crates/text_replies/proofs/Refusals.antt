@@ -5,19 +5,18 @@
 use Prim.Native.Nat.{ℕ}
 use Rattle.refusal_causes.specs.Sheet.{OnSheet}
 use Rattle.refusal_causes.proofs.Sheet.{on-sheet}
-use Rattle.text_lines.specs.declared.LineCause.{LineCause}
-use Rattle.text_taken.specs.Taking.{causeOf, refusedAt}
-use Rattle.text_taken.specs.declared.Scanned.{Scanned}
-use Rattle.text_taken.specs.declared.Scanned.the-variants as scanned
+use Rattle.text_keys.specs.declared.LineCause.{LineCause}
+use Rattle.text_ending.specs.Ending.{causeOf, refusedAt}
+use Rattle.text_ending.specs.declared.Scanned.{Scanned}
+use Rattle.text_ending.specs.declared.Scanned.the-variants as scanned
 use Rattle.text_reading.proofs.Refusals.{EndsBy}
 use Rattle.text_replies.specs.Replies.{Reply, RefusedBy, concluded}
 
 module _ (P : ℕ → Type 0) where
   pub concluded-refused : (end : Scanned) (r : Reply) → EndsBy P end → RefusedBy P r → RefusedBy P (concluded end r)
   unfolding concluded
-  concluded-refused (scanned.Whole p) r e h = h
+  concluded-refused scanned.Whole r e h = h
   concluded-refused (scanned.Refused c) r e h = e
 
 pub line-on-sheet : (c : LineCause) (n : ℕ) → OnSheet (refusedAt c n .number)
-unfolding refusedAt
-line-on-sheet c n = on-sheet (causeOf c n)
+line-on-sheet c n = on-sheet (causeOf c 0)

@@ -1,5 +1,4 @@
--- A buffer of 145,408 bytes has space for a text of at most so many bytes, and for a refusal.
---     mostText                   2,048 slice lines of 64 chains
+-- A buffer of `mostText` bytes has space for a text of at most so many bytes, and for a refusal.
 --     fill-long                  a buffer that is filled is as long as it was
 --     Within r                   the text of the reply r is no longer than mostText
 --     concluded-within           so it is of a reply to a reading
@@ -15,17 +14,15 @@ use lib.Seq.{length-take-le}
 use lib.ListN.{length, take, drop, length-append, length-drop}
 use Rattle.refusal_causes.specs.Outcome.{fill}
 use Rattle.refusal_causes.proofs.Outcome.{fill-whole, Full, fill-cases}
-use Rattle.text_place.specs.declared.Place.{Place}
-use Rattle.text_taken.specs.declared.Scanned.{Scanned}
-use Rattle.text_taken.specs.declared.Scanned.the-variants as scanned
+use Rattle.text_bounds.specs.Bounds.{mostText}
+use Rattle.text_bounds.proofs.Values.{text-value}
+use Rattle.text_ending.specs.declared.Scanned.{Scanned}
+use Rattle.text_ending.specs.declared.Scanned.the-variants as scanned
 use Rattle.text_write_refusal.specs.Refused.{refusedText}
 use Rattle.text_write_refusal.proofs.Lengths.{refused-length}
 use Rattle.text_replies.specs.Replies.{Reply, text, refused, concluded, printed}
 use Rattle.text_replies.specs.Calls.{answered, called, Shown, bytesOf, shown}
 use Rattle.text_replies.specs.declared.Answer.{Answer}
-
-abbrev pub mostText : ℕ
-mostText = 145408
 
 pub fill-long : (xs out : List ℕ) → length (fill xs out .buffer) ≡ length out
 fill-long xs out = ⊎-elim whole (λ f. ap length (f .buffer)) (fill-cases xs out)
@@ -37,11 +34,10 @@ abbrev pub Within : Reply → Type 0
 Within (text bs n) = length bs ≤ mostText
 Within (refused r) = Unit {0}
 
--- A reading that ends at a place has at most 64 masks.
-pub concluded-within : (end : Scanned) (r : Reply) → ((p : Place) → end ≡ scanned.Whole p → Within r) → Within (concluded end r)
+pub concluded-within : (end : Scanned) (r : Reply) → Within r → Within (concluded end r)
 unfolding concluded
-concluded-within (scanned.Whole p) r f = f p refl
-concluded-within (scanned.Refused c) r f = tt
+concluded-within scanned.Whole r w = w
+concluded-within (scanned.Refused c) r w = tt
 
 -- The bytes of a text, then every other byte as it was.
 abbrev pub front : List ℕ → List ℕ → Shown
@@ -50,7 +46,7 @@ front bs out = record { count = length bs; buffer = bs ++ drop (length bs) out }
 shown-front : (r : Reply) (out : List ℕ) → Within r → mostText ≤ length out → shown (called r out .answer) (called r out .buffer) ≡ front (printed r) out
 unfolding called shown answered printed bytesOf
 shown-front (text bs n) out h g = rw (fill-whole bs out (length bs) refl (omega arith))
-shown-front (refused r) out h g = rw (fill-whole (refusedText r) out (length (refusedText r)) refl (omega (arith, refused-length r)))
+shown-front (refused r) out h g = rw (fill-whole (refusedText r) out (length (refusedText r)) refl (omega (arith, refused-length r, text-value)))
 
 -- What a program leaves that makes a call and prints its answer: the text bs at the front of the buffer.
 abbrev pub Prints : List ℕ → List ℕ → ℕ → List ℕ → Type 0

@@ -9,8 +9,8 @@ use Prim.Native.Nat.{ℕ}
 use lib.ListN.{replicate}
 use Rattle.refusal_causes.specs.declared.Refusal.{Refusal}
 use Rattle.refusal_lengths.specs.Lengths.{mostSlices}
-use Rattle.text_taken.specs.declared.Scanned.{Scanned}
-use Rattle.text_taken.specs.declared.Scanned.the-variants as scanned
+use Rattle.text_ending.specs.declared.Scanned.{Scanned}
+use Rattle.text_ending.specs.declared.Scanned.the-variants as scanned
 use Rattle.text_write_refusal.specs.Refused.{refusedText}
 
 pub data Reply : Type 0 where
@@ -27,7 +27,7 @@ lent = replicate mostSlices 0
 
 -- Checks over the whole follow those of the lines.
 unfoldable pub concluded : Scanned → Reply → Reply
-concluded (scanned.Whole p) reply = reply
+concluded scanned.Whole reply = reply
 concluded (scanned.Refused r) reply = refused r
 
 -- A refused program prints its refusal, and nothing else.

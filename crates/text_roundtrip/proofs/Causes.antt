@@ -1,6 +1,5 @@
 -- Which refusals are not by cause 9: those of the checks (`judged`) and of a walk over seeds (`walk`).
---     Other c          the cause c is not 9
---     other-number     so its number is not
+--     Other c          the number of the cause c is not 9
 --     judged-other, walk-other     what the checks and a walk refuse by
 -- Assumes nothing.
 use mathlib.Core.Bool.{Bool, true, false, _&&_}
@@ -24,36 +23,7 @@ use Rattle.expander_meaning.specs.Expanding.{Walk, ran, failed, after, isLast, 
 use Rattle.expander_meaning.proofs.OneSeed.{walk-fails, walk-idle, walk-gives}
 
 abbrev pub Other : Cause → Type 0
-Other cause.Register = Unit {0}
-Other cause.Chains = Unit {0}
-Other cause.Lengths = Unit {0}
-Other cause.TestSlice = Unit {0}
-Other cause.StopSlice = Unit {0}
-Other cause.SlicesIn = Unit {0}
-Other cause.NoSeed = Unit {0}
-Other (cause.NoCutting n) = Unit {0}
-Other (cause.NoSpace n) = ⊥
-Other (cause.SeedBeyond n) = Unit {0}
-Other (cause.SeedAtStop n) = Unit {0}
-Other (cause.SeedEndless n) = Unit {0}
-Other (cause.Line n) = Unit {0}
-Other (cause.Total n) = Unit {0}
-
-pub other-number : (c : Cause) → Other c → refusalOf c .number ≡ 9 → ⊥
-other-number cause.Register o e = omega arith
-other-number cause.Chains o e = omega arith
-other-number cause.Lengths o e = omega arith
-other-number cause.TestSlice o e = omega arith
-other-number cause.StopSlice o e = omega arith
-other-number cause.SlicesIn o e = omega arith
-other-number cause.NoSeed o e = omega arith
-other-number (cause.NoCutting n) o e = omega arith
-other-number (cause.NoSpace n) o e = absurd o
-other-number (cause.SeedBeyond n) o e = omega arith
-other-number (cause.SeedAtStop n) o e = omega arith
-other-number (cause.SeedEndless n) o e = omega arith
-other-number (cause.Line n) o e = omega arith
-other-number (cause.Total n) o e = omega arith
+Other c = refusalOf c .number ≡ 9 → ⊥
 
 -- ---- the checks
 
@@ -81,7 +51,7 @@ none-other c e = absurd (let z : _≡_ {A = ℕ} 0 1 = cc in omega arith)
 
 pub judged-other : (f : Faults) (c : Cause) → judged f ≡ verdict.Refused c → Other c
 unfolding judged tests
-judged-other f c e = first-other _ _ tt (first-other _ _ tt (first-other _ _ tt (first-other _ _ tt (first-other _ _ tt none-other)))) c e
+judged-other f c e = first-other _ _ (λ z. omega arith) (first-other _ _ (λ z. omega arith) (first-other _ _ (λ z. omega arith) (first-other _ _ (λ z. omega arith) (first-other _ _ (λ z. omega arith) none-other)))) c e
 
 -- ---- a walk over seeds
 
@@ -96,10 +66,10 @@ fails-other d c o e = rw (← (fails-is d c e)) o
 
 ending-other : (place : ℕ) (last : Bool) (left : ℕ) (o : Option ℕ) (c : Cause) → ending place last left o ≡ fails c → Other c
 unfolding ending
-ending-other place last left (some zero) c e = fails-other _ c tt e
+ending-other place last left (some zero) c e = fails-other _ c (λ z. omega arith) e
 ending-other place last left (some (suc t)) c e = absurd (gives-fails _ c e)
 ending-other place true left none c e = absurd (gives-fails _ c e)
-ending-other place false left none c e = fails-other _ c tt e
+ending-other place false left none c e = fails-other _ c (λ z. omega arith) e
 
 module _ (M : Machine) (R : Rules) where
   delivers-other : (stop : TestSlice) (place : ℕ) (last : Bool) (left s : ℕ) (c : Cause) → delivers M R stop place last left s ≡ fails c → Other c
@@ -108,7 +78,7 @@ module _ (M : Machine) (R : Rules) where
     where
       go : (b : Bool) → _≡_ {A = Given} (elim b [ true ↦ ending place (last && leb left (R .limit)) left (firstStop M stop (suc (R .limit)) s) | false ↦ fails (cause.SeedBeyond place) ]) (fails c) → Other c
       go true e = ending-other place _ left _ c e
-      go false e = fails-other _ c tt e
+      go false e = fails-other _ c (λ z. omega arith) e
 
   -- What is refused after the slices of a seed is refused by itself.
   after-failed : (vs : List ℕ) (w : Walk) (c : Cause) → after vs w ≡ failed c → w ≡ failed c
@@ -126,5 +96,5 @@ module _ (M : Machine) (R : Rules) where
     where
       go : (d : Given) → delivers M R (R .live done) place (R .openEnd && isLast ss) (n - done) s ≡ d → ((m : ℕ) → walk M R n (suc place) (done + m) ss ≡ failed c → Other c) → Other c
       go (fails k) q ih = rw (← (failed-is k c (sym (walk-fails M R n place done s ss k q) ∙ e))) (delivers-other _ _ _ _ _ k q)
-      go (gives zero) q ih = rw (← (failed-is (cause.Total done) c (sym (walk-idle M R n place done s ss q) ∙ e))) tt
+      go (gives zero) q ih = rw (← (failed-is (cause.Total done) c (sym (walk-idle M R n place done s ss q) ∙ e))) (λ z. omega arith)
       go (gives (suc m)) q ih = ih (suc m) (after-failed _ _ c (sym (walk-gives M R n place done s ss (suc m) q (omega arith)) ∙ e))

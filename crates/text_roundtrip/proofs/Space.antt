@@ -38,21 +38,22 @@ use Rattle.encoder_meaning.specs.Meaning.{Listed, SetMeaning}
 use Rattle.encoder_cubes.specs.declared.Encoded.the-variants as encodings
 use Rattle.encoder_cubes.proofs.Cubes.{cubes-means}
 use Rattle.encoder_meaning.proofs.Seeds.{covering-cuts}
-use Rattle.text_lines.specs.declared.LineCause.{LineCause}
-use Rattle.text_lines.specs.declared.LineCause.the-variants as lineCause
-use Rattle.text_taken.specs.Taking.{causeOf, refusedAt}
+use Rattle.text_keys.specs.declared.LineCause.{LineCause}
+use Rattle.text_keys.specs.declared.LineCause.the-variants as lineCause
+use Rattle.text_ending.specs.Ending.{refusedAt}
 use Rattle.text_order.specs.declared.Kind.the-variants as kinds
 use Rattle.text_reading.proofs.Refusals.{reading-refused}
 use Rattle.text_replies.specs.Replies.{lent}
 use Rattle.text_encode_said.specs.Encoded.{encoded}
 use Rattle.text_expand_said.specs.Expanded.{expanded}
-use Rattle.text_encode.specs.EncodeText.{sheetReply, encodeReply}
-use Rattle.text_expand.specs.ExpandText.{seedListReply, expandReply}
+use Rattle.text_encode.specs.Sheet.{sheetReply}
+use Rattle.text_expand.specs.List.{seedListReply}
+use Rattle.text_calls.specs.Texts.{replyTo, encodeReply, expandReply}
 use Rattle.text_replies.proofs.Refusals.{concluded-refused}
 use Rattle.text_encode_said.proofs.Refusals.{list-refused}
 use Rattle.text_expand_said.proofs.Refusals.{slices-refused}
 use Rattle.text_roundtrip.specs.RoundTrip.{NotShort}
-use Rattle.text_roundtrip.proofs.Causes.{Other, other-number, judged-other, walk-other}
+use Rattle.text_roundtrip.proofs.Causes.{Other, judged-other, walk-other}
 
 encoded-is : (c d : Cause) → encodings.Refused c ≡ encodings.Refused d → c ≡ d
 encoded-is c d e = cc
@@ -77,23 +78,23 @@ listed-few g masks stop ps bs f n l =
 
 -- A cause of the call with the stop slice handed in.
 handed-other : (g : Settings) (masks : List ℕ) (stop : TestSlice) (ps bs : List ℕ) (h : Outcome) → judged (setFaults g masks stop ps bs) ≡ verdict.WellFormed → SetMeaning g masks stop ps bs lent h → (c : Cause) → h .answer ≡ written.Refused c → Other c
-handed-other g masks stop ps bs h f m cause.Register e = tt
-handed-other g masks stop ps bs h f m cause.Chains e = tt
-handed-other g masks stop ps bs h f m cause.Lengths e = tt
-handed-other g masks stop ps bs h f m cause.TestSlice e = tt
-handed-other g masks stop ps bs h f m cause.StopSlice e = tt
-handed-other g masks stop ps bs h f m cause.SlicesIn e = tt
-handed-other g masks stop ps bs h f m cause.NoSeed e = tt
-handed-other g masks stop ps bs h f m (cause.NoCutting n) e = tt
+handed-other g masks stop ps bs h f m cause.Register e = λ z. omega arith
+handed-other g masks stop ps bs h f m cause.Chains e = λ z. omega arith
+handed-other g masks stop ps bs h f m cause.Lengths e = λ z. omega arith
+handed-other g masks stop ps bs h f m cause.TestSlice e = λ z. omega arith
+handed-other g masks stop ps bs h f m cause.StopSlice e = λ z. omega arith
+handed-other g masks stop ps bs h f m cause.SlicesIn e = λ z. omega arith
+handed-other g masks stop ps bs h f m cause.NoSeed e = λ z. omega arith
+handed-other g masks stop ps bs h f m (cause.NoCutting n) e = λ z. omega arith
 handed-other g masks stop ps bs h f m (cause.NoSpace n) e =
     let s = m .meaning f .noSpace n e in
     let k = listed-few g masks stop ps bs f n (s .0) in
-    omega (arith, k, s .1, length-replicate {A = ℕ} 2048 0)
-handed-other g masks stop ps bs h f m (cause.SeedBeyond n) e = tt
-handed-other g masks stop ps bs h f m (cause.SeedAtStop n) e = tt
-handed-other g masks stop ps bs h f m (cause.SeedEndless n) e = tt
-handed-other g masks stop ps bs h f m (cause.Line n) e = tt
-handed-other g masks stop ps bs h f m (cause.Total n) e = tt
+    λ z. omega (arith, k, s .1, length-replicate {A = ℕ} 2048 0)
+handed-other g masks stop ps bs h f m (cause.SeedBeyond n) e = λ z. omega arith
+handed-other g masks stop ps bs h f m (cause.SeedAtStop n) e = λ z. omega arith
+handed-other g masks stop ps bs h f m (cause.SeedEndless n) e = λ z. omega arith
+handed-other g masks stop ps bs h f m (cause.Line n) e = λ z. omega arith
+handed-other g masks stop ps bs h f m (cause.Total n) e = λ z. omega arith
 
 stopped-refused : (stop : TestSlice) (w : Written) (c : Cause) → stopped stop w ≡ encodings.Refused c → w ≡ written.Refused c
 unfolding stopped
@@ -112,7 +113,7 @@ module _ (g : Settings) (masks : List ℕ) (depth : ℕ) (ps bs : List ℕ) wher
       is d q k = rw (← (encoded-is d c (sym q ∙ e))) k
 
       by-stop : judged (cubesFaults g masks depth ps bs) ≡ verdict.WellFormed → (s : Option TestSlice) → stopFor (length masks) (paired ps bs) ≡ s → Other c
-      by-stop w none q = is cause.SlicesIn (ap (λ (x : CubesOutcome). x .answer) (cubes-means g masks ps bs lent depth .unstopped w q .0)) tt
+      by-stop w none q = is cause.SlicesIn (ap (λ (x : CubesOutcome). x .answer) (cubes-means g masks ps bs lent depth .unstopped w q .0)) (λ z. omega arith)
       by-stop w (some st) q =
           let m = cubes-means g masks ps bs lent depth .stopped w st q in
           handed-other g masks st ps bs (m .handed) (m .formed) (m .meaning) c (stopped-refused st (m .handed .answer) c (sym (ap (λ (x : CubesOutcome). x .answer) (m .outcome)) ∙ e))
@@ -133,7 +134,7 @@ module _ (g : Settings) (masks : List ℕ) (stop : TestSlice) (n : ℕ) (seeds :
       go true q e =
           let k = fill-whole vs lent (length vs) refl (let z = eqb-true (length vs) n q in omega (arith, length-replicate {A = ℕ} 2048 0)) in
           absurd (let z : written.Count (length vs) ≡ written.Refused c = sym (ap (λ (x : Outcome). x .answer) k) ∙ e in let y : _≡_ {A = ℕ} 0 1 = cc in omega arith)
-      go false q e = rw (← (written-is (cause.Total (length vs)) c e)) tt
+      go false q e = rw (← (written-is (cause.Total (length vs)) c e)) (λ z. omega arith)
 
   few : judged (listFaults g masks stop n (length seeds)) ≡ verdict.WellFormed → n ≤ 2048
   unfolding listFaults
@@ -150,7 +151,6 @@ module _ (g : Settings) (masks : List ℕ) (stop : TestSlice) (n : ℕ) (seeds :
 -- ---- lines
 
 line-number : (c : LineCause) (n : ℕ) → refusedAt c n .number ≡ 9 → ⊥
-unfolding refusedAt causeOf
 line-number lineCause.Form n e = omega arith
 line-number lineCause.Register n e = omega arith
 line-number lineCause.Chains n e = omega arith
@@ -163,9 +163,9 @@ abbrev Not9 : ℕ → Type 0
 Not9 n = n ≡ 9 → ⊥
 
 pub encode-not-short : (s : List ℕ) → NotShort (encodeReply s)
-unfolding encodeReply sheetReply encoded
-encode-not-short s = concluded-refused Not9 _ _ (reading-refused Not9 line-number kinds.Sheet s) (list-refused Not9 _ _ _ _ _ (λ c e. other-number c (encode-other _ _ _ _ _ c e)))
+unfolding replyTo sheetReply encoded
+encode-not-short s = concluded-refused Not9 _ _ (reading-refused Not9 line-number kinds.Sheet s) (list-refused Not9 _ _ _ _ _ (encode-other _ _ _ _ _))
 
 pub expand-not-short : (s : List ℕ) → NotShort (expandReply s)
-unfolding expandReply seedListReply expanded
-expand-not-short s = concluded-refused Not9 _ _ (reading-refused Not9 line-number kinds.SeedList s) (slices-refused Not9 _ _ _ (λ c e. other-number c (expand-other _ _ _ _ _ c e)))
+unfolding replyTo seedListReply expanded
+expand-not-short s = concluded-refused Not9 _ _ (reading-refused Not9 line-number kinds.SeedList s) (slices-refused Not9 _ _ _ (expand-other _ _ _ _ _))

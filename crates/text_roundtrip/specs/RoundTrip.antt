@@ -17,24 +17,25 @@ use Rattle.stop_steps.specs.Steps.{stopFor}
 use Rattle.theory_covering.specs.Rules.{rules}
 use Rattle.encoder_meaning.specs.Meaning.{Shortest}
 use Rattle.text_reading.specs.Reading.{readingOf}
-use Rattle.text_entries.specs.Said.{masksOf, itemsOf, itemBitsOf, settingsOf}
-use Rattle.text_entries.specs.declared.Entry.{Entry}
+use Rattle.text_lines.specs.declared.Entry.{Entry}
+use Rattle.text_entries.specs.Said.{masksOf, settingsOf}
+use Rattle.text_encode.specs.Sheet.{specifiedOf, bitsOf}
 use Rattle.text_order.specs.declared.Kind.the-variants as kinds
 use Rattle.text_write_slices.specs.Slices.{sliceLines}
 use Rattle.text_write_list.specs.SeedList.{listText}
 use Rattle.text_replies.specs.Replies.{Reply, RefusedBy, text}
-use Rattle.text_expand.specs.ExpandText.{expandReply}
+use Rattle.text_calls.specs.Texts.{expandReply}
 
 abbrev pub sheetOf : List ℕ → List Entry
 sheetOf s = readingOf kinds.Sheet s .entries
 
 abbrev pub setOf : List ℕ → List TestSlice
-setOf s = paired (itemsOf (sheetOf s)) (itemBitsOf (sheetOf s))
+setOf s = paired (specifiedOf (sheetOf s)) (bitsOf (sheetOf s))
 
 pub record Quoted (s list : List ℕ) (n : ℕ) : Type 0 where
   pub stop : TestSlice
   pub seeds : List ℕ
-  pub printed : list ≡ listText (settingsOf (sheetOf s)) (masksOf (sheetOf s)) stop (length (itemsOf (sheetOf s))) seeds
+  pub printed : list ≡ listText (settingsOf (sheetOf s)) (masksOf (sheetOf s)) stop (length (specifiedOf (sheetOf s))) seeds
   pub count : length seeds ≡ n
   pub steps : stopFor (length (masksOf (sheetOf s))) (setOf s) ≡ some stop
   pub shortest : Shortest (machine (settingsOf (sheetOf s)) (masksOf (sheetOf s))) (rules (settingsOf (sheetOf s)) stop) (setOf s) seeds
@@ -42,8 +43,8 @@ pub record Quoted (s list : List ℕ) (n : ℕ) : Type 0 where
 pub record GivesBack (s list : List ℕ) : Type 0 where
   pub slices : List ℕ
   pub expands : expandReply list ≡ text (sliceLines (length (masksOf (sheetOf s))) slices) (length slices)
-  pub whole : length slices ≡ length (itemsOf (sheetOf s))
-  pub agree : (i : ℕ) (t : TestSlice) → i < length (itemsOf (sheetOf s)) → agrees (getD (setOf s) i t) (getD slices i 0) ≡ true
+  pub whole : length slices ≡ length (specifiedOf (sheetOf s))
+  pub agree : (i : ℕ) (t : TestSlice) → i < length (specifiedOf (sheetOf s)) → agrees (getD (setOf s) i t) (getD slices i 0) ≡ true
 
 abbrev pub NotShort : Reply → Type 0
 NotShort r = RefusedBy (λ n. n ≡ 9 → ⊥) r

@@ -10,7 +10,7 @@ use lib.ListN.{length, length-append}
 use Rattle.machine_settings.specs.declared.Settings.{Settings}
 use Rattle.machine_slices.specs.declared.TestSlice.{TestSlice}
 use Rattle.text_keys.specs.Bytes.{bytes}
-use Rattle.text_keys.specs.Keys.{name}
+use Rattle.text_keys.specs.Keys.{rows, rowAt, name}
 use Rattle.text_write_numbers.specs.Lines.{numberLine, numberLines}
 use Rattle.text_write_characters.specs.Characters.{sliceLine}
 use Rattle.text_write_list.specs.SeedList.{headText, listText}
@@ -19,7 +19,7 @@ use Rattle.text_write_characters.proofs.Characters.{slice-length}
 
 module _ (g : Settings) (masks : List ℕ) where
   pub head-parts : length (headText g masks) ≡ length (numberLine 10 (bytes "cells=") (g .cells)) + length (numberLine 16 (bytes "taps=") (g .taps)) + length (numberLine 10 (bytes "chains=") (length masks)) + length (numberLines 16 (bytes "chain=") masks)
-  unfolding headText name
+  unfolding headText name rowAt rows
   head-parts = simp length-append (omega arith)
 
   head-length : length (headText g masks) ≤ 81 + 27 * length masks
@@ -33,7 +33,7 @@ module _ (g : Settings) (masks : List ℕ) where
 
   module _ (stop : TestSlice) (slices : ℕ) (seeds : List ℕ) where
     pub list-parts : length (listText g masks stop slices seeds) ≡ length (headText g masks) + length (sliceLine (length masks) (bytes "stop=") stop) + length (numberLine 10 (bytes "slices=") slices) + length (numberLines 16 (bytes "seed=") seeds)
-    unfolding listText name
+    unfolding listText name rowAt rows
     list-parts = simp length-append (omega arith)
 
     pub list-bound : length (listText g masks stop slices seeds) ≤ 115 + 28 * length masks + 26 * length seeds

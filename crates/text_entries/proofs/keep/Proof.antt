@@ -2,35 +2,34 @@
 use borrow.Author.Needs.{needs}
 use Rattle.text_entries.proofs.keep.Statement.{statement}
 use Rattle.text_entries.proofs.keep.Tie as tie
-use Rattle.text_entries.specs.Kept.{storedIf}
+use mathlib.Core.Path.{sym}
+use Rattle.text_keys.specs.Keys.{rank}
+use Rattle.text_entries.specs.Flat.{words}
+use Rattle.text_entries.proofs.Keeping.{keep-three, sets-out, past-out, past-in}
 
 returns : tie.Need-returns
-unfolding storedIf
-returns c =
-    let s5 = c .before .before in
-    let s4 = s5 .before .before .before .before in
-    let s3 = s4 .before .before .before .before .before in
-    let s2 = s3 .before .before .before .before .before in
-    let s1 = s2 .before .before .before .before in
-    let rank = s1 .before .before .rank .ensures in
-    let item = s4 .before .before .is-item .ensures in
-    (rw rank at (s1 .store .ensures), (rw rank at (s2 .store2 .ensures), (rw (s3 .before .before .same .ensures) at (s3 .store3 .ensures), (rw item at (s4 .store4 .ensures), rw item at (s5 .store5 .ensures)))))
+returns c = (past-out _ _ (c .if1 .taken), sym (sets-out _ _ (words (c .before .before .args .entry)) (c .if1 .taken)))
+
+returns-2 : tie.Need-returns-2
+returns-2 c =
+    let third = c .before .before in
+    let second = third .before .before .before .before in
+    let first = second .before .before .before .before in
+    let branch = first .before .before .before in
+    let s = branch .before .before in
+    (past-in _ _ (branch .if1 .left), rw (third .store3 .ensures, second .store2 .ensures, first .store .ensures, first .before .rank .ensures) (keep-three (s .args .list .now) (s .args .at) (rank (s .args .entry .key)) (s .args .entry .first) (s .args .entry .second)))
 
 pub keep-spec : {M : Type 1} → statement M
 keep-spec =
     tie.close
     (tie.spec
-    (λ c κs. search needs)
-    (λ c κs. search needs)
-    (λ c κs. search needs)
-    (λ c κs. search needs)
-    (λ c κs. search needs)
-    (λ c κs. search needs)
+    returns
     (λ c κs. search needs)
     (λ c κs. search needs)
     (λ c. search needs)
+    (λ c κs. search needs)
+    (λ c. search needs)
+    (λ c κs. search needs)
     (λ c. search needs)
     (λ c. search needs)
-    (λ c. search needs)
-    (λ c. search needs)
-    returns)
+    returns-2)

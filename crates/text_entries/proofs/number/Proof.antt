@@ -2,17 +2,21 @@
 use borrow.Author.Needs.{needs}
 use Rattle.text_entries.proofs.number.Statement.{statement}
 use Rattle.text_entries.proofs.number.Tie as tie
-use native.Mathlib.Omega.{arith}
-use Rattle.text_entries.proofs.Heads.{rank-lt}
-
-mul-result : tie.Need-mul-result
-mul-result c = let q = rank-lt (c .before .before .args .key) in rw (c .rank .ensures) (omega (arith, q))
-
-shared-slice-read-result : tie.Need-shared-slice-read-result
-shared-slice-read-result c = let b = c .before in let q = rank-lt (b .before .before .args .key) in rw (b .rank .ensures) (omega (arith, q, b .before .before .pre))
+use Rattle.text_entries.specs.Said.{picked}
+use Rattle.text_entries.specs.Flat.{entriesIn}
+use Rattle.text_entries.proofs.Keeping.{one-front}
 
 returns : tie.Need-returns
-returns c = rw (c .before .rank .ensures)
+returns c =
+    let a = c .before .before .before .before .args in
+    rw (c .before .numbers .ensures .1) (one-front (a .absent) (picked (a .key) (a .part) (entriesIn (a .entries .now))))
 
 pub number-spec : {M : Type 1} → statement M
-number-spec = tie.close (tie.spec (λ c κs. search needs) mul-result shared-slice-read-result returns)
+number-spec =
+    tie.close
+    (tie.spec
+    (λ c. search needs)
+    (λ c. search needs)
+    (λ c κs. search needs)
+    (λ c. search needs)
+    returns)

@@ -1,81 +1,56 @@
--- `text_key_of::key_of` meets its contract. Each key in turn: the line does not begin with those before.
--- Assumes nothing.
+-- `text_key_of::key_of` meets its contract. The invariant: the key with which the line begins is the one among the rows that are left. Assumes nothing.
 use borrow.Author.Needs.{needs}
 use Rattle.text_key_of.proofs.key_of.Statement.{statement}
 use Rattle.text_key_of.proofs.key_of.Tie as tie
-use mathlib.Core.Path.{sym, _∙_}
-use Rattle.text_key_of.specs.Begins.{starts, keyOf}
-use Rattle.text_keys.specs.Keys.{name}
+use Prim.Native.Nat.{_-_}
+use mathlib.Core.Path.{_≡_, refl, sym, ap, _∙_}
+use native.Mathlib.Omega.{arith}
+use lib.ListN.{drop}
+use Rattle.text_keys.specs.Keys.{rows, count}
+use Rattle.text_key_of.specs.Begins.{keyOf}
+use Rattle.text_key_of.specs.declared.Named.the-variants.{Known}
+use Rattle.text_key_of.proofs.Naming.{key-here, key-go, key-end}
 
-returns : tie.Need-returns
-unfolding keyOf name starts
-returns c = rw (sym (c .before .starts .ensures) ∙ c .if1 .taken)
+abbrev Inv-loop : tie.InvT-loop
+Inv-loop line i₀ i = keyOf (drop i rows) line ≡ keyOf rows line
 
-returns-2 : tie.Need-returns-2
-unfolding keyOf name starts
-returns-2 c = rw (sym (c .before .before .before .before .starts .ensures) ∙ c .before .before .before .if1 .left, sym (c .before .starts2 .ensures) ∙ c .if2 .taken)
+abbrev μ-loop : tie.MeasureT-loop
+μ-loop line i₀ i = count - i
 
-returns-3 : tie.Need-returns-3
-unfolding keyOf name starts
-returns-3 c = rw (sym (c .before .before .before .before .before .before .before .starts .ensures) ∙ c .before .before .before .before .before .before .if1 .left, sym (c .before .before .before .before .starts2 .ensures) ∙ c .before .before .before .if2 .left, sym (c .before .starts3 .ensures) ∙ c .if3 .taken)
+begins-requires : tie.Need-begins-requires Inv-loop μ-loop
+begins-requires c κs = omega arith
 
-returns-4 : tie.Need-returns-4
-unfolding keyOf name starts
-returns-4 c = rw (sym (c .before .before .before .before .before .before .before .before .before .before .starts .ensures) ∙ c .before .before .before .before .before .before .before .before .before .if1 .left, sym (c .before .before .before .before .before .before .before .starts2 .ensures) ∙ c .before .before .before .before .before .before .if2 .left, sym (c .before .before .before .before .starts3 .ensures) ∙ c .before .before .before .if3 .left, sym (c .before .starts4 .ensures) ∙ c .if4 .taken)
+spelling-at-requires : tie.Need-spelling-at-requires Inv-loop μ-loop
+spelling-at-requires c κs = omega arith
 
-returns-5 : tie.Need-returns-5
-unfolding keyOf name starts
-returns-5 c = rw (sym (c .before .before .before .before .before .before .before .before .before .before .before .before .before .starts .ensures) ∙ c .before .before .before .before .before .before .before .before .before .before .before .before .if1 .left, sym (c .before .before .before .before .before .before .before .before .before .before .starts2 .ensures) ∙ c .before .before .before .before .before .before .before .before .before .if2 .left, sym (c .before .before .before .before .before .before .before .starts3 .ensures) ∙ c .before .before .before .before .before .before .if3 .left, sym (c .before .before .before .before .starts4 .ensures) ∙ c .before .before .before .if4 .left, sym (c .before .starts5 .ensures) ∙ c .if5 .taken)
+returns : tie.Need-returns Inv-loop μ-loop
+returns c =
+    let t = c .before in
+    let at = t .before .before .before in
+    ap (λ r. Known (r .0)) (c .spelling-at .ensures) ∙ sym (key-here _ (at .loop .i) (omega arith) (sym (t .before .begins .ensures) ∙ t .if1 .taken)) ∙ at .loop .inv
 
-returns-6 : tie.Need-returns-6
-unfolding keyOf name starts
-returns-6 c = rw (sym (c .before .before .before .before .before .before .before .before .before .before .before .before .before .before .before .before .starts .ensures) ∙ c .before .before .before .before .before .before .before .before .before .before .before .before .before .before .before .if1 .left, sym (c .before .before .before .before .before .before .before .before .before .before .before .before .before .starts2 .ensures) ∙ c .before .before .before .before .before .before .before .before .before .before .before .before .if2 .left, sym (c .before .before .before .before .before .before .before .before .before .before .starts3 .ensures) ∙ c .before .before .before .before .before .before .before .before .before .if3 .left, sym (c .before .before .before .before .before .before .before .starts4 .ensures) ∙ c .before .before .before .before .before .before .if4 .left, sym (c .before .before .before .before .starts5 .ensures) ∙ c .before .before .before .if5 .left, sym (c .before .starts6 .ensures) ∙ c .if6 .taken)
+loop-less : tie.Need-loop-less Inv-loop μ-loop
+loop-less c = omega arith
 
-returns-7 : tie.Need-returns-7
-unfolding keyOf name starts
-returns-7 c = rw (sym (c .before .before .before .before .before .before .before .before .before .before .before .before .before .before .before .before .before .before .before .starts .ensures) ∙ c .before .before .before .before .before .before .before .before .before .before .before .before .before .before .before .before .before .before .if1 .left, sym (c .before .before .before .before .before .before .before .before .before .before .before .before .before .before .before .before .starts2 .ensures) ∙ c .before .before .before .before .before .before .before .before .before .before .before .before .before .before .before .if2 .left, sym (c .before .before .before .before .before .before .before .before .before .before .before .before .before .starts3 .ensures) ∙ c .before .before .before .before .before .before .before .before .before .before .before .before .if3 .left, sym (c .before .before .before .before .before .before .before .before .before .before .starts4 .ensures) ∙ c .before .before .before .before .before .before .before .before .before .if4 .left, sym (c .before .before .before .before .before .before .before .starts5 .ensures) ∙ c .before .before .before .before .before .before .if5 .left, sym (c .before .before .before .before .starts6 .ensures) ∙ c .before .before .before .if6 .left, sym (c .before .starts7 .ensures) ∙ c .if7 .taken)
+loop-again : tie.Need-loop-again Inv-loop μ-loop
+loop-again c =
+    let at = c .before .before .before in
+    sym (key-go _ (at .loop .i) (omega arith) (sym (c .before .begins .ensures) ∙ c .if1 .left)) ∙ at .loop .inv
 
-returns-8 : tie.Need-returns-8
-unfolding keyOf name starts
-returns-8 c = rw (sym (c .before .before .before .before .before .before .before .before .before .before .before .before .before .before .before .before .before .before .before .before .before .before .starts .ensures) ∙ c .before .before .before .before .before .before .before .before .before .before .before .before .before .before .before .before .before .before .before .before .before .if1 .left, sym (c .before .before .before .before .before .before .before .before .before .before .before .before .before .before .before .before .before .before .before .starts2 .ensures) ∙ c .before .before .before .before .before .before .before .before .before .before .before .before .before .before .before .before .before .before .if2 .left, sym (c .before .before .before .before .before .before .before .before .before .before .before .before .before .before .before .before .starts3 .ensures) ∙ c .before .before .before .before .before .before .before .before .before .before .before .before .before .before .before .if3 .left, sym (c .before .before .before .before .before .before .before .before .before .before .before .before .before .starts4 .ensures) ∙ c .before .before .before .before .before .before .before .before .before .before .before .before .if4 .left, sym (c .before .before .before .before .before .before .before .before .before .before .starts5 .ensures) ∙ c .before .before .before .before .before .before .before .before .before .if5 .left, sym (c .before .before .before .before .before .before .before .starts6 .ensures) ∙ c .before .before .before .before .before .before .if6 .left, sym (c .before .before .before .before .starts7 .ensures) ∙ c .before .before .before .if7 .left, sym (c .before .starts8 .ensures) ∙ c .if8 .taken)
-
-returns-9 : tie.Need-returns-9
-unfolding keyOf name starts
-returns-9 c = rw (sym (c .before .before .before .before .before .before .before .before .before .before .before .before .before .before .before .before .before .before .before .before .before .before .before .before .before .starts .ensures) ∙ c .before .before .before .before .before .before .before .before .before .before .before .before .before .before .before .before .before .before .before .before .before .before .before .before .if1 .left, sym (c .before .before .before .before .before .before .before .before .before .before .before .before .before .before .before .before .before .before .before .before .before .before .starts2 .ensures) ∙ c .before .before .before .before .before .before .before .before .before .before .before .before .before .before .before .before .before .before .before .before .before .if2 .left, sym (c .before .before .before .before .before .before .before .before .before .before .before .before .before .before .before .before .before .before .before .starts3 .ensures) ∙ c .before .before .before .before .before .before .before .before .before .before .before .before .before .before .before .before .before .before .if3 .left, sym (c .before .before .before .before .before .before .before .before .before .before .before .before .before .before .before .before .starts4 .ensures) ∙ c .before .before .before .before .before .before .before .before .before .before .before .before .before .before .before .if4 .left, sym (c .before .before .before .before .before .before .before .before .before .before .before .before .before .starts5 .ensures) ∙ c .before .before .before .before .before .before .before .before .before .before .before .before .if5 .left, sym (c .before .before .before .before .before .before .before .before .before .before .starts6 .ensures) ∙ c .before .before .before .before .before .before .before .before .before .if6 .left, sym (c .before .before .before .before .before .before .before .starts7 .ensures) ∙ c .before .before .before .before .before .before .if7 .left, sym (c .before .before .before .before .starts8 .ensures) ∙ c .before .before .before .if8 .left, sym (c .before .starts9 .ensures) ∙ c .if9 .taken)
-
-returns-10 : tie.Need-returns-10
-unfolding keyOf name starts
-returns-10 c = rw (sym (c .before .before .before .before .before .before .before .before .before .before .before .before .before .before .before .before .before .before .before .before .before .before .before .before .before .starts .ensures) ∙ c .before .before .before .before .before .before .before .before .before .before .before .before .before .before .before .before .before .before .before .before .before .before .before .before .if1 .left, sym (c .before .before .before .before .before .before .before .before .before .before .before .before .before .before .before .before .before .before .before .before .before .before .starts2 .ensures) ∙ c .before .before .before .before .before .before .before .before .before .before .before .before .before .before .before .before .before .before .before .before .before .if2 .left, sym (c .before .before .before .before .before .before .before .before .before .before .before .before .before .before .before .before .before .before .before .starts3 .ensures) ∙ c .before .before .before .before .before .before .before .before .before .before .before .before .before .before .before .before .before .before .if3 .left, sym (c .before .before .before .before .before .before .before .before .before .before .before .before .before .before .before .before .starts4 .ensures) ∙ c .before .before .before .before .before .before .before .before .before .before .before .before .before .before .before .if4 .left, sym (c .before .before .before .before .before .before .before .before .before .before .before .before .before .starts5 .ensures) ∙ c .before .before .before .before .before .before .before .before .before .before .before .before .if5 .left, sym (c .before .before .before .before .before .before .before .before .before .before .starts6 .ensures) ∙ c .before .before .before .before .before .before .before .before .before .if6 .left, sym (c .before .before .before .before .before .before .before .starts7 .ensures) ∙ c .before .before .before .before .before .before .if7 .left, sym (c .before .before .before .before .starts8 .ensures) ∙ c .before .before .before .if8 .left, sym (c .before .starts9 .ensures) ∙ c .if9 .left)
+returns-2 : tie.Need-returns-2 Inv-loop μ-loop
+returns-2 c = let at = c .before in sym (key-end _ (at .loop .i) (omega arith)) ∙ at .loop .inv
 
 pub key-of-spec : {M : Type 1} → statement M
 key-of-spec =
     tie.close
     (tie.spec
-    (λ c. search needs)
-    (λ c κs. search needs)
+    Inv-loop
+    μ-loop
+    (λ c. refl)
+    begins-requires
+    spelling-at-requires
     returns
     (λ c. search needs)
-    (λ c κs. search needs)
-    returns-2
-    (λ c. search needs)
-    (λ c κs. search needs)
-    returns-3
-    (λ c. search needs)
-    (λ c κs. search needs)
-    returns-4
-    (λ c. search needs)
-    (λ c κs. search needs)
-    returns-5
-    (λ c. search needs)
-    (λ c κs. search needs)
-    returns-6
-    (λ c. search needs)
-    (λ c κs. search needs)
-    returns-7
-    (λ c. search needs)
-    (λ c κs. search needs)
-    returns-8
-    (λ c. search needs)
-    (λ c κs. search needs)
-    returns-9
-    returns-10)
+    loop-less
+    loop-again
+    returns-2)

@@ -7,7 +7,7 @@ use mathlib.Core.Path.{_≡_, refl, sym, _∙_}
 use native.Mathlib.Omega.{arith}
 use lib.ListN.{length, drop}
 use Rattle.text_key_of.specs.Begins.{starts}
-use Rattle.text_key_of.proofs.Begins.{starts-go, starts-other, starts-short, starts-end}
+use Rattle.text_key_of.proofs.Starting.{starts-go, starts-other, starts-short, starts-end}
 
 abbrev Inv-loop : tie.InvT-loop
 Inv-loop k l i₀ i = (i ≤ length k) × (starts (drop i k) (drop i l) ≡ starts k l)

@@ -6,7 +6,7 @@ use Rattle.text_lines.specs.Form.{sliced}
 
 returns : tie.Need-returns
 unfolding sliced
-returns c = rw (c .before .row .given .1)
+returns c = rw (c .before .said .given .1)
 
 returns-2 : tie.Need-returns-2
 unfolding sliced

@@ -1,7 +1,7 @@
 -- `text_write_list::put_head` meets its contract. The lines are stored one after the other.
 -- Assumes nothing.
 use native.Mathlib.Omega.{arith}
-use Rattle.text_keys.specs.Keys.{name}
+use Rattle.text_keys.specs.Keys.{rows, rowAt, name}
 use Rattle.text_write_list.specs.SeedList.{headText}
 use Rattle.text_write_bytes.proofs.Storing.{join}
 use Rattle.text_write_list.proofs.Lengths.{head-parts}
@@ -22,7 +22,7 @@ put-number-lines-requires : tie.Need-put-number-lines-requires
 put-number-lines-requires c κs = let a = c .before .before .before .before .before .before .before .before .before .before .before .before .before .before .before .before .before .before .before .args in (omega arith, omega arith, omega (arith, head-parts (a .settings) (a .masks .now)))
 
 returns : tie.Need-returns
-unfolding headText name
+unfolding headText name rowAt rows
 returns c = join (c .before .before .before .before .before .before .before .before .before .before .before .before .before .before .before .before .before .put-number-line .ensures) (join (c .before .before .before .before .before .before .before .before .before .before .before .before .put-number-line2 .ensures) (join (c .before .before .before .before .before .before .before .put-number-line3 .ensures) (c .before .before .put-number-lines .ensures)))
 
 pub put-head-spec : {M : Type 1} → statement M

@@ -1,7 +1,7 @@
 -- `text_write_list::put_list` meets its contract. The head and the lines after it are stored one after the other.
 -- Assumes nothing.
 use native.Mathlib.Omega.{arith}
-use Rattle.text_keys.specs.Keys.{name}
+use Rattle.text_keys.specs.Keys.{rows, rowAt, name}
 use Rattle.text_write_list.specs.SeedList.{listText}
 use Rattle.text_write_bytes.proofs.Storing.{join}
 use Rattle.text_write_list.proofs.Lengths.{list-parts}
@@ -22,7 +22,7 @@ put-number-lines-requires : tie.Need-put-number-lines-requires
 put-number-lines-requires c κs = let a = c .before .before .before .before .before .before .before .before .before .before .before .before .before .before .before .before .before .before .before .args in (omega arith, omega arith, omega (arith, list-parts (a .settings) (a .masks .now) (a .stop) (a .slices) (a .seeds .now)))
 
 returns : tie.Need-returns
-unfolding listText name
+unfolding listText name rowAt rows
 returns c = join (c .before .before .before .before .before .before .before .before .before .before .before .before .before .before .before .before .before .put-head .ensures) (join (c .before .before .before .before .before .before .before .before .before .before .before .before .put-slice-line .ensures) (join (c .before .before .before .before .before .before .before .put-number-line .ensures) (c .before .before .put-number-lines .ensures)))
 
 pub put-list-spec : {M : Type 1} → statement M

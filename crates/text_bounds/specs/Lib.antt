@@ -1,0 +1,2 @@
+-- How many lines and bytes a text can have.
+pub mod Bounds

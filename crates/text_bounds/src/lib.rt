@@ -1,0 +1,1 @@
+// How many lines and bytes a text can have, as definitions and laws: no code.

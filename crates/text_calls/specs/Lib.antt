@@ -1,0 +1,2 @@
+-- The text call.
+pub mod Texts

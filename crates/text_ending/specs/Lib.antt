@@ -1,0 +1,2 @@
+-- How the reading of a text ends.
+pub mod Ending

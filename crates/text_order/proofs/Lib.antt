@@ -1,0 +1,3 @@
+-- The laws of the order, and the proofs of the functions.
+pub mod Standing
+pub mod Members
