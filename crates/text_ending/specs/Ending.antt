@@ -1,6 +1,6 @@
 -- How the reading of a text ends (document 01, "Sheet and seed list").
 --     causeOf c n            the cause of document 01's refusal sheet for the line n that is refused by c
---     lineNumber c           its number
+--     lineNumber c           its number, whatever the line
 --     refusedAt c n          the number with the line
 --     refusalOfLine said n   the refusal of a refused line
 --     endOf kind p n         the end of a text that ends where the line n would stand

@@ -31,7 +31,7 @@ const SLICES: u64 = 1 << 7;
 
 const SEED: u64 = 1 << 8;
 
-// The keys that may stand after the lines of a key, in a sheet and in a seed list.
+// The keys that may stand after the lines of a key, in a sheet and in a seed list; a row a key, as in the table of keys.
 pub struct Followers(pub u64, pub u64);
 
 const AFTER: [Followers; text_keys::COUNT] = [
