@@ -4,8 +4,8 @@
  * A list is a pointer and its number of entries. The pointer must not be NULL, also where the number is 0, and must be
  * aligned for its type; it must lead to that many entries, all of which have been written to before, also those of a buffer
  * that is lent to be written; and such a buffer must not overlap anything else that is handed in. No function checks this.
- * All else is checked: every call ends with an answer, and a refusal changes no entry of a lent buffer. A call needs about
- * half a megabyte of stack. No function keeps anything between calls, so threads may call at the same time. */
+ * All else is checked: every call ends with an answer, and a refusal changes no entry of a lent buffer. A call needs at most
+ * SEEDS_STACK bytes of stack. No function keeps anything between calls, so threads may call at the same time. */
 #ifndef SEEDS_H
 #define SEEDS_H
 
@@ -18,7 +18,40 @@ extern "C" {
 #endif
 
 /* The version of this header and of the Rust package; docs/library.md says what stays from one to the next. */
-#define SEEDS_VERSION "0.2.0"
+#define SEEDS_VERSION "0.3.0"
+
+/* Most cells of a register; most chains; most slices of a window, and the greatest depth; most slices of a set, and most seeds
+ * of a list. */
+#define SEEDS_MOST_CELLS 64
+#define SEEDS_MOST_CHAINS 64
+#define SEEDS_LONGEST_WINDOW 256
+#define SEEDS_MOST_SLICES 2048
+
+/* Bytes of a text that decide its answer, whatever stands behind them; bytes of the longest text that is written. */
+#define SEEDS_LONGEST_INPUT 169441
+#define SEEDS_LONGEST_OUTPUT 145408
+
+/* Bytes of stack that are enough for every call: a thread may be made with just that many. */
+#define SEEDS_STACK 720896
+
+/* The number of an answer: accepted, or the cause of the refusal. docs/library.md has the whole cause and the value of each. */
+enum seeds_cause {
+    SEEDS_ACCEPTED = 0,
+    SEEDS_REGISTER = 1,      /* cells or taps */
+    SEEDS_CHAINS = 2,        /* their number, or a mask */
+    SEEDS_LENGTHS = 3,       /* a depth, a window length, a number of slices or seeds */
+    SEEDS_TEST_SLICE = 4,    /* a test slice, or two lists unequally long */
+    SEEDS_STOP_SLICE = 5,    /* the stop slice */
+    SEEDS_SLICES_IN = 6,     /* the stop slice steps end with slices in */
+    SEEDS_NO_SEED = 7,       /* no state covers the window */
+    SEEDS_NO_CUTTING = 8,    /* the set can't be cut */
+    SEEDS_NO_SPACE = 9,      /* the lent buffer is too short */
+    SEEDS_SEED_BEYOND = 10,  /* a seed with a bit at or above cells */
+    SEEDS_SEED_AT_STOP = 11, /* a seed whose slice 0 shows the stop */
+    SEEDS_SEED_ENDLESS = 12, /* a seed with no stop */
+    SEEDS_LINE = 13,         /* a line out of form or out of order, or text that ends early */
+    SEEDS_TOTAL = 14         /* the expanded total differs from slices */
+};
 
 /* A register, by its number of cells and its taps, with the settings of a call. Make it by seeds_settings_of: a version with
  * a setting more has a field more. */

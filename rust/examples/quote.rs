@@ -1,40 +1,30 @@
 // Quotes a sheet: reads it from standard input, prints its number of seeds and its seed list, and expands the list again.
-// Then the same by numbers, for document 01's register R.
+// Then the same by numbers, for document 01's register R. It ends with status 1 where anything is refused.
 
 use seeds::{
-    encode_cubes, encode_sheet, expand, expand_list, Machine, Refusal, Settings, TestSlices,
+    encode_cubes, encode_text, expand, expand_text, Cause, Machine, Refusal, Settings, TestSlices,
+    LONGEST_INPUT, LONGEST_OUTPUT,
 };
 use std::io::{self, Read, Write};
-
-/// How many lines of a text begin with a key.
-fn lines(text: &[u8], key: &[u8]) -> usize {
-    let lines = text.split(|&byte| byte == b'\n');
-    lines.filter(|line| line.starts_with(key)).count()
-}
+use std::process::ExitCode;
 
 /// Numbers, each behind a space.
 fn shown(numbers: &[u64]) -> String {
     numbers.iter().map(|number| format!(" {number}")).collect()
 }
 
-/// Encodes and expands a sheet, and prints both.
-fn by_text(sheet: &[u8]) -> io::Result<()> {
-    let told = encode_sheet(sheet).and_then(|list| Ok((expand_list(&list)?, list)));
-    match told {
-        Ok((slices, list)) => {
-            println!("{} seeds", lines(&list, b"seed="));
-            io::stdout().write_all(&list)?;
-            io::stdout().write_all(&slices)
-        }
-        Err(refusal) => {
-            println!("{refusal}");
-            Ok(())
-        }
-    }
+/// Encodes and expands a sheet, and answers with what is printed: its seeds counted, its list, the list's slices.
+fn by_text(sheet: &[u8]) -> Result<Vec<u8>, Refusal> {
+    let (mut list, mut lines) = (vec![0; LONGEST_OUTPUT], vec![0; LONGEST_OUTPUT]);
+    let encoded = encode_text(sheet, &mut list)?;
+    let list = &list[..encoded.bytes];
+    let expanded = expand_text(list, &mut lines)?;
+    let count = format!("{} seeds\n", encoded.entries);
+    Ok([count.as_bytes(), list, &lines[..expanded.bytes]].concat())
 }
 
-/// Encodes document 01's set by numbers: 10, x1, 1x, 1x; chain 1 is the lowest bit.
-fn by_numbers() -> Result<(), Refusal> {
+/// Encodes document 01's set by numbers, 10, x1, 1x, 1x, where chain 1 is the lowest bit, and expands its seeds.
+fn by_numbers() -> Result<Vec<u8>, Refusal> {
     let machine = Machine::new(Settings::new(3, 6), &[1, 4]);
     let set = TestSlices {
         specified: &[0b11, 0b10, 0b01, 0b01],
@@ -44,21 +34,38 @@ fn by_numbers() -> Result<(), Refusal> {
     let encoded = encode_cubes(machine, 2, set, &mut seeds)?;
     let seeds = &seeds[..encoded.seeds];
     let stop = encoded.stop;
-    println!(
-        "stop {} {}, seeds{}",
-        stop.specified,
-        stop.bits,
-        shown(seeds)
-    );
     let mut slices = [0; 4];
     let total = expand(machine, stop, 4, seeds, &mut slices)?;
-    println!("{total} slices{}", shown(&slices[..total]));
-    Ok(())
+    let (specified, bits) = (stop.specified, stop.bits);
+    let first = format!("stop {specified} {bits}, seeds{}\n", shown(seeds));
+    Ok(format!("{first}{total} slices{}\n", shown(&slices[..total])).into_bytes())
 }
 
-fn main() -> Result<(), Box<dyn std::error::Error>> {
+/// Prints an answer or its refusal; whether it is accepted.
+fn print(answer: Result<Vec<u8>, Refusal>) -> io::Result<bool> {
+    match answer {
+        Ok(text) => {
+            io::stdout().write_all(&text)?;
+            Ok(true)
+        }
+        Err(refusal) => {
+            println!("{refusal}");
+            if refusal.is(Cause::NoCutting) {
+                let slices = refusal.value;
+                println!("slices that can be cut, from the first on: {slices}");
+            }
+            Ok(false)
+        }
+    }
+}
+
+fn main() -> io::Result<ExitCode> {
     let mut sheet = Vec::new();
-    io::stdin().read_to_end(&mut sheet)?;
-    by_text(&sheet)?;
-    Ok(by_numbers()?)
+    let mut input = io::stdin().take(LONGEST_INPUT as u64);
+    input.read_to_end(&mut sheet)?;
+    let accepted = print(by_text(&sheet))? & print(by_numbers())?;
+    Ok(match accepted {
+        true => ExitCode::SUCCESS,
+        false => ExitCode::FAILURE,
+    })
 }

@@ -7,36 +7,33 @@
 //! No function panics, whatever it is given: unusable input gets a [`Refusal`], and a refusal changes no lent buffer.
 //! What the wrapper adds to the library is unproved, and is tested in `tests/`.
 
+mod cause;
 mod checks;
 mod encoding;
 pub mod entries;
 mod expanding;
+mod limits;
 pub mod raw;
 mod refusal;
 mod texts;
 
+pub use cause::Cause;
 pub use checks::{check_cubes, check_list, check_set, check_stop, check_window};
 pub use encoding::{encode_cubes, encode_set, stop_slice, window_seed, Encoded};
 pub use entries::{agrees, count_in, shows, slice, step};
 pub use expanding::expand;
-
+pub use limits::{
+    LONGEST_INPUT, LONGEST_OUTPUT, LONGEST_WINDOW, MOST_CELLS, MOST_CHAINS, MOST_SLICES, STACK,
+};
 pub use raw::Settings;
 pub use refusal::Refusal;
-pub use texts::{encode_sheet, encode_text, expand_list, expand_text, Written, LONGEST_OUTPUT};
+pub use texts::{encode_sheet, encode_text, expand_list, expand_text, Written};
 
 #[cfg(not(all(target_arch = "x86_64", target_os = "linux")))]
 compile_error!("the static library is for x86-64 Linux");
 
 /// The version of the package and of the header; docs/library.md says what stays from one to the next.
 pub const VERSION: &str = env!("CARGO_PKG_VERSION");
-/// Most cells of a register.
-pub const MOST_CELLS: usize = 64;
-/// Most chains.
-pub const MOST_CHAINS: usize = 64;
-/// Most slices of a window, and the greatest depth.
-pub const LONGEST_WINDOW: usize = 256;
-/// Most slices of a set, and most seeds of a list.
-pub const MOST_SLICES: usize = 2048;
 
 /// A test slice or stop slice: its specified positions, and its bits there. Chain j has weight 2^(j-1).
 #[derive(Clone, Copy, Debug, Default, PartialEq, Eq)]

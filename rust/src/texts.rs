@@ -1,10 +1,7 @@
 // The text calls: a sheet to its seed list, a seed list to its slice lines. Document 01, "Sheet and seed list".
 
 use crate::raw::TextAnswer;
-use crate::{entries, Refusal};
-
-/// Bytes of the longest text that a call writes: 2,048 slice lines of 64 chains.
-pub const LONGEST_OUTPUT: usize = 2048 * (b"slice=\n".len() + 64);
+use crate::{entries, Refusal, LONGEST_OUTPUT};
 
 /// An accepted text: the bytes written, and how many seeds or slices they say.
 #[derive(Clone, Copy, Debug, PartialEq, Eq)]

@@ -1,8 +1,9 @@
 // The declarations of src/raw.rs and of c/seeds.h against the library's own source: every function of crates/seeds/src/lib.rt and every
 // struct that it takes or answers with, by name, parameters and types. A slice `x: &[T]` is there a pointer `x` and a number `x_len`.
 
-use std::fs;
-use std::path::Path;
+mod common;
+
+use common::{file, snake, text};
 
 /// A name and its type, as the library's source has it.
 type Named = (String, String);
@@ -12,25 +13,6 @@ struct Item {
     name: String,
     parts: Vec<Named>,
     result: String,
-}
-
-/// A file of the repository, without its comments and with single spaces.
-fn file(path: &str) -> String {
-    let path = Path::new(env!("CARGO_MANIFEST_DIR")).join("..").join(path);
-    let text = fs::read_to_string(&path).unwrap_or_else(|e| panic!("{}: {e}", path.display()));
-    let lines = text
-        .lines()
-        .map(|line| line.split("//").next().unwrap_or(""));
-    let text: String = lines.map(|line| format!("{line} ")).collect();
-    let mut kept = String::new();
-    let mut rest = text.as_str();
-    while let Some(start) = rest.find("/*") {
-        kept.push_str(&rest[..start]);
-        let end = rest[start..].find("*/").expect("a comment ends");
-        rest = &rest[start + end + 2..];
-    }
-    kept.push_str(rest);
-    kept.split_whitespace().collect::<Vec<_>>().join(" ")
 }
 
 /// What stands between two marks, and what follows.
@@ -115,18 +97,6 @@ fn c_type(kind: &str) -> String {
         "bool" => "bool".into(),
         name => format!("seeds_{}", snake(name)),
     }
-}
-
-/// `StopAnswer` as `stop_answer`.
-fn snake(name: &str) -> String {
-    let mut all = String::new();
-    for letter in name.chars() {
-        if letter.is_uppercase() && !all.is_empty() {
-            all.push('_');
-        }
-        all.extend(letter.to_lowercase());
-    }
-    all
 }
 
 /// A parameter in C.
@@ -215,4 +185,6 @@ fn c_functions() {
 fn the_header_has_the_version() {
     let version = format!("#define SEEDS_VERSION \"{}\"", seeds::VERSION);
     assert!(file("c/seeds.h").contains(&version), "{version}");
+    let version = format!("Version: {}", seeds::VERSION);
+    assert!(text("c/seeds.pc").lines().any(|line| line == version));
 }

@@ -1,0 +1,67 @@
+// The limits of the wrapper and of c/seeds.h against the library's own source, and against each other.
+
+mod common;
+
+use common::file;
+
+/// A limit: its name, the wrapper's number, the crate that has it too, and what stands before it there.
+struct Limit {
+    name: &'static str,
+    number: usize,
+    from: &'static str,
+    mark: String,
+}
+
+/// All limits but the stack, which no source has.
+fn limits() -> [Limit; 6] {
+    let constant = |name, number, from| Limit {
+        name,
+        number,
+        from,
+        mark: format!("pub const {name}: usize = "),
+    };
+    let buffer = |name, number, list| Limit {
+        name,
+        number,
+        from: "text_program",
+        mark: format!("let mut {list} = [0u8; "),
+    };
+    [
+        constant("MOST_CELLS", seeds::MOST_CELLS, "machine_register"),
+        constant("MOST_CHAINS", seeds::MOST_CHAINS, "machine_chains"),
+        constant("LONGEST_WINDOW", seeds::LONGEST_WINDOW, "machine_register"),
+        constant("MOST_SLICES", seeds::MOST_SLICES, "refusal_lengths"),
+        buffer("LONGEST_INPUT", seeds::LONGEST_INPUT, "input"),
+        buffer("LONGEST_OUTPUT", seeds::LONGEST_OUTPUT, "output"),
+    ]
+}
+
+/// The number that follows a mark.
+fn number(text: &str, mark: &str) -> Option<usize> {
+    let (_, rest) = text.split_once(mark)?;
+    let end = rest.find(|letter: char| !letter.is_ascii_digit());
+    rest[..end.unwrap_or(rest.len())].parse().ok()
+}
+
+#[test]
+fn the_library_has_the_limits() {
+    for limit in limits() {
+        let source = file(&format!("crates/{}/src/lib.rt", limit.from));
+        let stated = number(&source, &limit.mark);
+        assert_eq!(stated, Some(limit.number), "{}", limit.name);
+    }
+}
+
+#[test]
+fn the_header_has_the_limits_and_no_other() {
+    let header = file("c/seeds.h");
+    let mut all: Vec<(&str, usize)> = limits().iter().map(|l| (l.name, l.number)).collect();
+    all.push(("STACK", seeds::STACK));
+    for &(name, limit) in &all {
+        let mark = format!("#define SEEDS_{name} ");
+        assert_eq!(number(&header, &mark), Some(limit), "{name}");
+    }
+    let defined = header.split("#define SEEDS_").skip(1);
+    let numbers = defined.filter(|rest| number(rest, " ").is_some());
+    assert_eq!(numbers.count(), all.len());
+}
