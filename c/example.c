@@ -2,6 +2,7 @@
  * Then the same by numbers, for document 01's register R. For an accepted sheet it prints what rust/examples/quote.rs prints.
  * It ends with status 1 where anything is refused. */
 #include "seeds.h"
+#include <stdbool.h>
 #include <stdio.h>
 #include <stdlib.h>
 

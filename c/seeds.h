@@ -9,7 +9,6 @@
 #ifndef SEEDS_H
 #define SEEDS_H
 
-#include <stdbool.h>
 #include <stddef.h>
 #include <stdint.h>
 
@@ -66,6 +65,20 @@ static inline seeds_settings seeds_settings_of(size_t cells, uint64_t taps) {
     return settings;
 }
 
+/* A step: number 0 and the state after it; or a refusal's number and value, with state 0. */
+typedef struct {
+    size_t number;
+    size_t value;
+    uint64_t state;
+} seeds_state_answer;
+
+/* The slice of a state: number 0 and the slice; or a refusal's number and value, with slice 0. */
+typedef struct {
+    size_t number;
+    size_t value;
+    uint64_t slice;
+} seeds_slice_answer;
+
 /* A stop slice: number 0 and the stop slice; or a refusal's number and value, with a stop slice of 0 and 0. */
 typedef struct {
     size_t number;
@@ -95,18 +108,18 @@ typedef struct {
     uint64_t bits;
 } seeds_cubes_answer;
 
-/* A text: number 0, the bytes written and the seeds or slices in them; or a refusal's number and value, with no entries. */
+/* A text: number 0, the bytes written and the seeds or slices in them as entries; or a refusal's number and value, with 0
+ * entries, but for SEEDS_NO_SPACE: there they are the seeds or slices that enough space would have given. */
 typedef struct {
     size_t number;
     size_t value;
     size_t entries;
 } seeds_text_answer;
 
-/* The register rule and the comparisons of slices. */
-uint64_t seeds_step(seeds_settings settings, uint64_t state);
-uint64_t seeds_slice(const uint64_t *masks, size_t masks_len, uint64_t state);
-bool seeds_agrees(uint64_t specified, uint64_t bits, uint64_t slice);
-bool seeds_shows(uint64_t stop_specified, uint64_t stop_bits, uint64_t slice);
+/* The register rule: one step from a state, and the slice of a state. */
+seeds_state_answer seeds_step(seeds_settings settings, uint64_t state);
+seeds_slice_answer seeds_slice(seeds_settings settings, const uint64_t *masks, size_t masks_len,
+                               uint64_t state);
 
 /* The number of the first of causes 1 to 5 that refuses a call, or 0. */
 size_t seeds_check_window(seeds_settings settings, const uint64_t *masks, size_t masks_len,
@@ -128,10 +141,7 @@ size_t seeds_check_list(seeds_settings settings, const uint64_t *masks, size_t m
                         uint64_t stop_specified, uint64_t stop_bits,
                         size_t slices, size_t seeds);
 
-/* The stop slice of a set, and how many of its slices are in under a stop slice. */
-size_t seeds_count_in(uint64_t stop_specified, uint64_t stop_bits,
-                      const uint64_t *specified, size_t specified_len,
-                      const uint64_t *bits, size_t bits_len);
+/* The stop slice of a set. */
 seeds_stop_answer seeds_stop(size_t chains,
                              const uint64_t *specified, size_t specified_len,
                              const uint64_t *bits, size_t bits_len);

@@ -1,41 +1,20 @@
 // Each entry of the library over Rust's slices, with its answer as the library gives it. All that is unsafe in this package stands here:
 // a slice is never null, is aligned, has its length, and one that is lent to be written overlaps no other.
 
-use crate::raw::{self, Answer, CubesAnswer, SeedAnswer, StopAnswer, TextAnswer};
+use crate::raw::{
+    self, Answer, CubesAnswer, SeedAnswer, SliceAnswer, StateAnswer, StopAnswer, TextAnswer,
+};
 use crate::{Machine, Settings, TestSlice, TestSlices};
 
-/// One step of a register from a state. Of more than 64 cells the first 64 count.
-pub fn step(settings: Settings, state: u64) -> u64 {
+/// One step of a register from a state.
+pub fn step(settings: Settings, state: u64) -> StateAnswer {
     unsafe { raw::seeds_step(settings, state) }
 }
 
-/// The slice of a state. Of more than 64 masks the first 64 count.
-pub fn slice(masks: &[u64], state: u64) -> u64 {
-    unsafe { raw::seeds_slice(masks.as_ptr(), masks.len(), state) }
-}
-
-/// Whether a slice agrees with each specified bit of a test slice.
-pub fn agrees(test: TestSlice, slice: u64) -> bool {
-    unsafe { raw::seeds_agrees(test.specified, test.bits, slice) }
-}
-
-/// Whether a slice shows the stop slice.
-pub fn shows(stop: TestSlice, slice: u64) -> bool {
-    unsafe { raw::seeds_shows(stop.specified, stop.bits, slice) }
-}
-
-/// How many test slices have the stop's bit specified at each specified position of the stop; of two lists unequally long, the shorter counts.
-pub fn count_in(stop: TestSlice, set: TestSlices) -> usize {
-    unsafe {
-        raw::seeds_count_in(
-            stop.specified,
-            stop.bits,
-            set.specified.as_ptr(),
-            set.specified.len(),
-            set.bits.as_ptr(),
-            set.bits.len(),
-        )
-    }
+/// The slice of a state.
+pub fn slice(machine: Machine, state: u64) -> SliceAnswer {
+    let masks = machine.masks;
+    unsafe { raw::seeds_slice(machine.settings, masks.as_ptr(), masks.len(), state) }
 }
 
 /// The number of the first of causes 1 to 5 that refuses a window, or 0.

@@ -15,18 +15,19 @@ mod expanding;
 mod limits;
 pub mod raw;
 mod refusal;
+mod states;
 mod texts;
 
 pub use cause::Cause;
 pub use checks::{check_cubes, check_list, check_set, check_stop, check_window};
 pub use encoding::{encode_cubes, encode_set, stop_slice, window_seed, Encoded};
-pub use entries::{agrees, count_in, shows, slice, step};
 pub use expanding::expand;
 pub use limits::{
     LONGEST_INPUT, LONGEST_OUTPUT, LONGEST_WINDOW, MOST_CELLS, MOST_CHAINS, MOST_SLICES, STACK,
 };
 pub use raw::Settings;
 pub use refusal::Refusal;
+pub use states::{slice, step};
 pub use texts::{encode_sheet, encode_text, expand_list, expand_text, Written};
 
 #[cfg(not(all(target_arch = "x86_64", target_os = "linux")))]

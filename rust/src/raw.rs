@@ -21,6 +21,24 @@ impl Settings {
     }
 }
 
+/// Number 0 with the state after a step; or a refusal's number and value, with state 0.
+#[repr(C)]
+#[derive(Clone, Copy, Debug, PartialEq, Eq)]
+pub struct StateAnswer {
+    pub number: usize,
+    pub value: usize,
+    pub state: u64,
+}
+
+/// Number 0 with the slice of a state; or a refusal's number and value, with slice 0.
+#[repr(C)]
+#[derive(Clone, Copy, Debug, PartialEq, Eq)]
+pub struct SliceAnswer {
+    pub number: usize,
+    pub value: usize,
+    pub slice: u64,
+}
+
 /// Number 0 with the stop slice; or a refusal's number and value, with a stop slice of 0 and 0.
 #[repr(C)]
 #[derive(Clone, Copy, Debug, PartialEq, Eq)]
@@ -58,7 +76,7 @@ pub struct CubesAnswer {
     pub bits: u64,
 }
 
-/// Number 0 with the bytes written and the seeds or slices in them; or a refusal's number and value, with no entries.
+/// Number 0 with the bytes written and the seeds or slices in them; or a refusal's number and value, and beside cause 9 the seeds or slices that enough space would have given, else 0.
 #[repr(C)]
 #[derive(Clone, Copy, Debug, PartialEq, Eq)]
 pub struct TextAnswer {
@@ -68,10 +86,13 @@ pub struct TextAnswer {
 }
 
 extern "C" {
-    pub fn seeds_step(settings: Settings, state: u64) -> u64;
-    pub fn seeds_slice(masks: *const u64, masks_len: usize, state: u64) -> u64;
-    pub fn seeds_agrees(specified: u64, bits: u64, slice: u64) -> bool;
-    pub fn seeds_shows(stop_specified: u64, stop_bits: u64, slice: u64) -> bool;
+    pub fn seeds_step(settings: Settings, state: u64) -> StateAnswer;
+    pub fn seeds_slice(
+        settings: Settings,
+        masks: *const u64,
+        masks_len: usize,
+        state: u64,
+    ) -> SliceAnswer;
     pub fn seeds_check_window(
         settings: Settings,
         masks: *const u64,
@@ -119,14 +140,6 @@ extern "C" {
         stop_bits: u64,
         slices: usize,
         seeds: usize,
-    ) -> usize;
-    pub fn seeds_count_in(
-        stop_specified: u64,
-        stop_bits: u64,
-        specified: *const u64,
-        specified_len: usize,
-        bits: *const u64,
-        bits_len: usize,
     ) -> usize;
     pub fn seeds_stop(
         chains: usize,

@@ -12,14 +12,25 @@ pub struct Written {
 
 /// A text call's answer.
 fn written(told: TextAnswer) -> Result<Written, Refusal> {
-    Refusal::unless_accepted(told.number, told.value)?;
-    Ok(Written {
-        bytes: told.value,
-        entries: told.entries,
-    })
+    let TextAnswer {
+        number,
+        value,
+        entries,
+    } = told;
+    match number {
+        0 => Ok(Written {
+            bytes: value,
+            entries,
+        }),
+        _ => Err(Refusal {
+            number,
+            value,
+            entries,
+        }),
+    }
 }
 
-/// The seed list of a sheet, written into `out`. The first refused line, then the checks over the whole, then 9 with the bytes needed.
+/// The seed list of a sheet, written into `out`. The first refused line, then the checks over the whole, then 9 with the bytes needed and the number of seeds.
 pub fn encode_text(sheet: &[u8], out: &mut [u8]) -> Result<Written, Refusal> {
     written(entries::encode_text(sheet, out))
 }

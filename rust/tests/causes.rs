@@ -46,7 +46,7 @@ fn the_wrapper_has_them() {
     for (number, name) in sheet() {
         let cause = Cause::of(number).expect("a cause");
         assert_eq!((cause as usize, format!("{cause:?}")), (number, name));
-        let refusal = Refusal { number, value: 0 };
+        let refusal = Refusal::new(number, 0);
         assert!(refusal.is(cause));
         assert_eq!(refusal.cause(), cause.text());
     }

@@ -4,35 +4,23 @@ mod common;
 
 use common::file;
 
-/// A limit: its name, the wrapper's number, the crate that has it too, and what stands before it there.
+/// A limit: its name, the wrapper's number, and the crate that has it too.
 struct Limit {
     name: &'static str,
     number: usize,
     from: &'static str,
-    mark: String,
 }
 
 /// All limits but the stack, which no source has.
 fn limits() -> [Limit; 6] {
-    let constant = |name, number, from| Limit {
-        name,
-        number,
-        from,
-        mark: format!("pub const {name}: usize = "),
-    };
-    let buffer = |name, number, list| Limit {
-        name,
-        number,
-        from: "text_program",
-        mark: format!("let mut {list} = [0u8; "),
-    };
+    let constant = |name, number, from| Limit { name, number, from };
     [
         constant("MOST_CELLS", seeds::MOST_CELLS, "machine_register"),
         constant("MOST_CHAINS", seeds::MOST_CHAINS, "machine_chains"),
         constant("LONGEST_WINDOW", seeds::LONGEST_WINDOW, "machine_register"),
         constant("MOST_SLICES", seeds::MOST_SLICES, "refusal_lengths"),
-        buffer("LONGEST_INPUT", seeds::LONGEST_INPUT, "input"),
-        buffer("LONGEST_OUTPUT", seeds::LONGEST_OUTPUT, "output"),
+        constant("LONGEST_INPUT", seeds::LONGEST_INPUT, "text_program"),
+        constant("LONGEST_OUTPUT", seeds::LONGEST_OUTPUT, "text_program"),
     ]
 }
 
@@ -47,7 +35,8 @@ fn number(text: &str, mark: &str) -> Option<usize> {
 fn the_library_has_the_limits() {
     for limit in limits() {
         let source = file(&format!("crates/{}/src/lib.rt", limit.from));
-        let stated = number(&source, &limit.mark);
+        let mark = format!("pub const {}: usize = ", limit.name);
+        let stated = number(&source, &mark);
         assert_eq!(stated, Some(limit.number), "{}", limit.name);
     }
 }

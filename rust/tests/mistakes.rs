@@ -3,8 +3,8 @@
 
 use seeds::{
     check_cubes, check_list, check_set, check_stop, check_window, encode_cubes, encode_set,
-    encode_sheet, encode_text, expand, expand_list, expand_text, stop_slice, window_seed, Machine,
-    Refusal, Settings, TestSlice, TestSlices, LONGEST_OUTPUT, MOST_SLICES,
+    encode_sheet, encode_text, expand, expand_list, expand_text, slice, step, stop_slice,
+    window_seed, Machine, Refusal, Settings, TestSlice, TestSlices, LONGEST_OUTPUT, MOST_SLICES,
 };
 
 const R: Machine = Machine::new(Settings::new(3, 6), &[1, 4]);
@@ -20,7 +20,7 @@ const SHEET: &[u8] = include_bytes!("../../examples/sheet.txt");
 const UNTOUCHED: u64 = 0xdead_beef;
 
 fn refusal<T>(number: usize, value: usize) -> Result<T, Refusal> {
-    Err(Refusal { number, value })
+    Err(Refusal::new(number, value))
 }
 
 /// A call with a buffer of so many entries that must be refused: the buffer is as it was.
@@ -37,6 +37,7 @@ fn refused<T: std::fmt::Debug + PartialEq>(
 
 /// Every call over a machine and a set is refused by the number.
 fn all_refused(machine: Machine, number: usize) {
+    assert_eq!(slice(machine, 9), refusal(number, 0));
     assert_eq!(check_window(machine, STOP, SET), refusal(number, 0));
     assert_eq!(check_set(machine, STOP, SET), refusal(number, 0));
     assert_eq!(check_cubes(machine, 1, SET), refusal(number, 0));
@@ -61,11 +62,28 @@ fn the_right_calls() {
 #[test]
 fn cells_and_taps() {
     for cells in [0, 65, 1 << 32, usize::MAX] {
-        all_refused(Machine::new(Settings::new(cells, 6), R.masks), 1);
+        let settings = Settings::new(cells, 6);
+        assert_eq!(step(settings, 9), refusal(1, 0));
+        all_refused(Machine::new(settings, R.masks), 1);
     }
     for taps in [0, 2, 8 | 4, u64::MAX] {
-        all_refused(Machine::new(Settings::new(3, taps), R.masks), 1);
+        let settings = Settings::new(3, taps);
+        assert_eq!(step(settings, 9), refusal(1, 0));
+        all_refused(Machine::new(settings, R.masks), 1);
     }
+}
+
+#[test]
+fn states() {
+    assert_eq!(step(R.settings, 7), Ok(6));
+    assert_eq!(slice(R, 6), Ok(2));
+    for state in [8, 9, u64::MAX] {
+        assert_eq!(step(R.settings, state), refusal(10, 0));
+        assert_eq!(slice(R, state), refusal(10, 0));
+    }
+    let wide = Settings::new(64, 1 << 63);
+    assert_eq!(step(wide, u64::MAX), Ok(u64::MAX));
+    assert_eq!(slice(Machine::new(wide, &[1 << 63]), u64::MAX), Ok(1));
 }
 
 #[test]
@@ -190,7 +208,12 @@ fn texts() {
     let list = encode_sheet(SHEET).expect("document 01's sheet");
     for room in 0..list.len() {
         let mut out = vec![7; room];
-        assert_eq!(encode_text(SHEET, &mut out), refusal(9, list.len()));
+        let short = Refusal {
+            number: 9,
+            value: list.len(),
+            entries: 2,
+        };
+        assert_eq!(encode_text(SHEET, &mut out), Err(short));
         assert!(out.iter().all(|&byte| byte == 7));
     }
     let mut out = vec![7; LONGEST_OUTPUT];
@@ -206,12 +229,9 @@ fn texts() {
 
 #[test]
 fn refusals_are_for_people() {
-    let refusal = Refusal {
-        number: 8,
-        value: 1,
-    };
+    let refusal = Refusal::new(8, 1);
     assert_eq!(refusal.to_string(), "refused=8 at=1: the set can't be cut");
-    let known = (1..=14).map(|number| Refusal { number, value: 0 }.cause());
+    let known = (1..=14).map(|number| Refusal::new(number, 0).cause());
     let known: std::collections::HashSet<_> = known.collect();
     assert_eq!(known.len(), 14);
 }

@@ -25,10 +25,7 @@ const BOTH: TestSlice = TestSlice {
 };
 
 /// All slices but the last can be cut.
-const LAST_NOT_CUT: Refusal = Refusal {
-    number: 8,
-    value: MOST_SLICES - 1,
-};
+const LAST_NOT_CUT: Refusal = Refusal::new(8, MOST_SLICES - 1);
 
 /// What a call answers in a thread of so little stack.
 fn in_stack<T: Send>(call: impl FnOnce() -> T + Send) -> T {

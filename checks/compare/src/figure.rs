@@ -1,4 +1,4 @@
-// Both iterations of document 004's figure 2: the counts as functions give them, as the second program prints them, and as the library counts them.
+// Both iterations of document 004's figure 2: the counts as functions give them, as the second program prints them, and the library's stop slices of each iteration.
 
 use crate::library::{self, Like, StopAnswer};
 use crate::report::{same, Outcome};
@@ -73,52 +73,35 @@ pub fn counts() -> Outcome {
     Ok(10)
 }
 
-/// The counts of both iterations by the library, and its stop slice.
+/// The library's stop slice of some of the figure's slices, without the positions of `set`, against the one that is told.
+fn left_by(places: &[usize], set: u64, told: (u64, u64)) -> Result<(), String> {
+    let (specified, bits) = lists();
+    let pick = |list: &[u64]| places.iter().map(|&place| list[place] & !set).collect();
+    let (specified, bits): (Vec<u64>, Vec<u64>) = (pick(&specified), pick(&bits));
+    let ours = library::stop(10, &specified, &bits);
+    let what = format!("the stop slice of the slices {places:?} without the positions {set:x}");
+    same(&what, ours, StopAnswer::like(Ok(told)))
+}
+
+/// Both iterations by the library: what is left of the stop slice for the slices still in, and the one position for those that go out.
 pub fn by_library() -> Outcome {
     let (specified, bits) = lists();
     let trace = second::stop_trace(10, &specified, &bits)
         .map_err(|r| format!("refused by {}", r.number))?;
-    let figure = [[FIRST_ZEROS, FIRST_ONES], [SECOND_ZEROS, SECOND_ONES]];
-    same("iterations", trace.iterations.len(), figure.len())?;
-    let mut still_in: Vec<usize> = (0..SLICES.len()).collect();
-    let (mut stop, mut count) = ((0, 0), 1);
-    for (step, printed) in trace.iterations.iter().zip(figure) {
-        same("0s of the figure", &step.zeros[..], &printed[0][..])?;
-        same("1s of the figure", &step.ones[..], &printed[1][..])?;
-        count += 2 + iteration(stop, &still_in, printed)?;
-        still_in.retain(|place| !step.removed.contains(place));
-        stop.0 |= 1 << (step.position - 1);
-        stop.1 |= step.bit << (step.position - 1);
-    }
     let told = read("x1xxxxx0xx");
-    same("the stop slice set", stop, told)?;
-    let ours = library::stop(10, &specified, &bits);
-    same("the library's stop slice", ours, StopAnswer::like(Ok(told)))?;
-    Ok(count + 2)
-}
-
-/// Each count of an iteration by the library: over the slices still in, and over all with the stop slice so far and the position set to the bit.
-/// At a position set to the other bit there is no such stop slice.
-fn iteration(stop: (u64, u64), still_in: &[usize], printed: [[u64; 10]; 2]) -> Outcome {
-    let (specified, bits) = lists();
-    let pick = |list: &[u64]| still_in.iter().map(|&place| list[place]).collect();
-    let (in_specified, in_bits): (Vec<u64>, Vec<u64>) = (pick(&specified), pick(&bits));
-    let mut count = 0;
-    for (place, weight) in (0..10).map(|place| (place, 1 << place)) {
-        for (bit, set) in [(0, 0), (1, weight)] {
-            let what = format!("{bit}s at position {} with the stop {stop:x?}", place + 1);
-            let told = printed[bit][place] as usize;
-            let ours = library::count_in((weight, set), &in_specified, &in_bits);
-            same(&what, ours, told)?;
-            count += 1;
-            if stop.0 & weight == 0 || stop.1 & weight == set {
-                let next = (stop.0 | weight, stop.1 | set);
-                same(&what, library::count_in(next, &specified, &bits), told)?;
-                count += 1;
-            }
-        }
+    let mut still_in: Vec<usize> = (0..SLICES.len()).collect();
+    let (mut set, mut count) = (0, 0);
+    for step in &trace.iterations {
+        let weight = 1 << (step.position - 1);
+        left_by(&still_in, set, (told.0 & !set, told.1 & !set))?;
+        left_by(&step.removed, set, (weight, told.1 & weight))?;
+        still_in.retain(|place| !step.removed.contains(place));
+        set |= weight;
+        count += 2;
     }
-    Ok(count)
+    same("the positions set", set, told.0)?;
+    same("the slices still in", still_in.len(), 0)?;
+    Ok(count + 2)
 }
 
 /// The numbers of each counted line that the program prints, in order.

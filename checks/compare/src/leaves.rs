@@ -1,82 +1,93 @@
-// The proved leaves against the second program: step, slice, agreeing, showing, and the checks behind causes 1 to 5.
+// The proved leaves against the second program: step and slice with their refusals, and the checks behind causes 1 to 5.
 
-use crate::call::Call;
+use crate::call::{refused, Call};
 use crate::inputs::{damage, lawful};
-use crate::library;
+use crate::library::{self, Like, SliceAnswer, StateAnswer};
 use crate::random::Random;
 use crate::report::{same, Outcome};
-use seeds::Settings;
+use crate::seen::Seen;
+use second::{check_chains, check_register, Refused};
+use seeds::{Machine, Settings};
 
-/// Steps of lawful registers of 1 to 64 cells from random states.
+/// Cause 10 of a state: it is the one seed that is handed in, so its place is 0.
+fn check_state(cells: usize, state: u64) -> Result<(), Refused> {
+    if cells < 64 && state >> cells != 0 {
+        return refused(10, 0);
+    }
+    Ok(())
+}
+
+/// The state after one step by the second program: cause 1, then 10.
+fn stepped(call: &Call, state: u64) -> Result<u64, Refused> {
+    check_register(call.cells as u64, call.taps)?;
+    check_state(call.cells, state)?;
+    Ok(second::step(call.cells as u64, call.taps, state))
+}
+
+/// The slice of a state by the second program: causes 1 and 2, then 10.
+fn sliced(call: &Call, state: u64) -> Result<u64, Refused> {
+    check_register(call.cells as u64, call.taps)?;
+    check_chains(call.cells as u64, &call.masks)?;
+    check_state(call.cells, state)?;
+    Ok(second::slice(&call.masks, state))
+}
+
+/// A state of the call's cells; one time in eight any word.
+fn any_state(random: &mut Random, call: &Call) -> u64 {
+    match random.below(8) {
+        0 => random.word(),
+        _ => random.bits(call.cells),
+    }
+}
+
+/// Steps of registers of 1 to 64 cells, ten in a row, and of damaged ones.
 pub fn steps() -> Outcome {
     let mut random = Random(1);
-    let mut count = 0;
+    let (mut count, mut seen) = (0, Seen::default());
     for round in 0..20_000 {
-        let cells = 1 + round % 64;
-        let taps = random.bits(cells) | 1 << (cells - 1);
-        let mut state = random.bits(cells);
+        let mut call = lawful(&mut random, 64, 1, 1);
+        for _ in 0..round % 4 {
+            damage(&mut random, &mut call);
+        }
+        let mut state = any_state(&mut random, &call);
         for _ in 0..10 {
-            let next = library::step(Settings::new(cells, taps), state);
-            same(
-                &format!("step of {cells} cells, taps {taps:x}, state {state:x}"),
-                next,
-                second::step(cells as u64, taps, state),
-            )?;
-            state = next;
+            let told = stepped(&call, state);
+            let ours = library::step(Settings::new(call.cells, call.taps), state);
+            let what = format!("step from {state:x} of {call:x?}");
+            same(&what, ours, StateAnswer::like(told))?;
+            seen.answer(&told);
+            state = told.unwrap_or(state);
             count += 1;
         }
     }
+    seen.require(&["accepted", "refusal 1", "refusal 10"])?;
     Ok(count)
 }
 
-/// Slices of random states under 1 to 64 masks.
+/// Slices of random states under 1 to 64 masks, and of damaged calls.
 pub fn slices() -> Outcome {
     let mut random = Random(2);
-    let mut count = 0;
+    let (mut count, mut seen) = (0, Seen::default());
     for round in 0..50_000 {
-        let chains = 1 + round % 64;
-        let masks: Vec<u64> = (0..chains).map(|_| random.word()).collect();
-        let state = random.word();
-        same(
-            &format!("slice of {state:x} under {masks:x?}"),
-            library::slice(&masks, state),
-            second::slice(&masks, state),
-        )?;
+        let mut call = lawful(&mut random, 64, 64, 1);
+        for _ in 0..round % 4 {
+            damage(&mut random, &mut call);
+        }
+        let state = any_state(&mut random, &call);
+        let told = sliced(&call, state);
+        let settings = Settings::new(call.cells, call.taps);
+        let ours = library::slice(Machine::new(settings, &call.masks), state);
+        let what = format!("slice of {state:x} of {call:x?}");
+        same(&what, ours, SliceAnswer::like(told))?;
+        seen.answer(&told);
         count += 1;
     }
-    Ok(count)
-}
-
-/// Agreeing and showing, on numbers that often agree.
-pub fn agreeing() -> Outcome {
-    let mut random = Random(3);
-    let mut count = 0;
-    for _ in 0..50_000 {
-        let width = random.between(1, 64);
-        let specified = random.sparse(width, 10);
-        let slice = random.bits(width);
-        let bits = if random.one_in(2) {
-            slice & specified
-        } else {
-            random.word() & specified
-        };
-        same(
-            "agrees",
-            library::agrees(specified, bits, slice),
-            second::agrees(specified, bits, slice),
-        )?;
-        same(
-            "shows",
-            library::shows((specified, bits), slice),
-            second::shows(specified, bits, slice),
-        )?;
-        count += 2;
-    }
+    seen.require(&["accepted", "refusal 1", "refusal 2", "refusal 10"])?;
     Ok(count)
 }
 
 /// The number of a refusal by one of causes 1 to 5, or 0.
-fn number<T>(answer: Result<T, second::Refused>) -> usize {
+fn number<T>(answer: Result<T, Refused>) -> usize {
     match answer {
         Err(refused) if refused.number <= 5 => refused.number as usize,
         _ => 0,
@@ -128,8 +139,8 @@ pub fn checks() -> Outcome {
 
 /// Whether the second program refuses the register, the chains or the test slices: then none of its calls searches.
 fn refused_unsearched(call: &Call) -> bool {
-    second::check_register(call.cells as u64, call.taps).is_err()
-        || second::check_chains(call.cells as u64, &call.masks).is_err()
+    check_register(call.cells as u64, call.taps).is_err()
+        || check_chains(call.cells as u64, &call.masks).is_err()
         || second::check_slices(call.masks.len() as u64, &call.specified, &call.bits).is_err()
 }
 

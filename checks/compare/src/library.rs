@@ -2,9 +2,11 @@
 
 use crate::call::Call;
 use second::Refused;
-pub use seeds::raw::{Answer, CubesAnswer, SeedAnswer, StopAnswer, TextAnswer};
+pub use seeds::entries::{slice, step};
+pub use seeds::raw::{
+    Answer, CubesAnswer, SeedAnswer, SliceAnswer, StateAnswer, StopAnswer, TextAnswer,
+};
 use seeds::{entries, raw, Machine, Settings, TestSlice, TestSlices};
-pub use seeds::{slice, step};
 
 /// The second program's answer as the library gives it.
 pub trait Like<T> {
@@ -18,6 +20,30 @@ impl Like<usize> for Answer {
             Err(refused) => (refused.number as usize, refused.value as usize),
         };
         Answer { number, value }
+    }
+}
+
+impl Like<u64> for StateAnswer {
+    fn like(told: Result<u64, Refused>) -> StateAnswer {
+        let state = told.unwrap_or(0);
+        let Answer { number, value } = Answer::like(told.map(|_| 0));
+        StateAnswer {
+            number,
+            value,
+            state,
+        }
+    }
+}
+
+impl Like<u64> for SliceAnswer {
+    fn like(told: Result<u64, Refused>) -> SliceAnswer {
+        let slice = told.unwrap_or(0);
+        let Answer { number, value } = Answer::like(told.map(|_| 0));
+        SliceAnswer {
+            number,
+            value,
+            slice,
+        }
     }
 }
 
@@ -62,19 +88,6 @@ impl Like<(u64, u64, usize)> for CubesAnswer {
 /// A test slice or stop slice of two numbers.
 fn test((specified, bits): (u64, u64)) -> TestSlice {
     TestSlice { specified, bits }
-}
-
-pub fn agrees(specified: u64, bits: u64, slice: u64) -> bool {
-    seeds::agrees(test((specified, bits)), slice)
-}
-
-pub fn shows(stop: (u64, u64), slice: u64) -> bool {
-    seeds::shows(test(stop), slice)
-}
-
-/// How many test slices have the stop's bit specified at each of its specified positions.
-pub fn count_in(stop: (u64, u64), specified: &[u64], bits: &[u64]) -> usize {
-    seeds::count_in(test(stop), TestSlices { specified, bits })
 }
 
 pub fn stop(chains: usize, specified: &[u64], bits: &[u64]) -> StopAnswer {

@@ -123,7 +123,7 @@ fn examples(report: &mut Report) {
     report.case("bench examples, limits", bench::limits());
     report.case("figure 2, counted", figure::counts());
     report.case("figure 2, printed", figure::printed(second_program));
-    report.case("figure 2, counted by the library", figure::by_library());
+    report.case("figure 2, by the library", figure::by_library());
     report.case("small sets against brute force", small::sets());
     report.case("small windows against brute force", small::windows());
     report.case("small sets encoded and expanded", small::round_trips());
@@ -133,10 +133,8 @@ fn examples(report: &mut Report) {
 fn library_leaves(report: &mut Report) {
     report.case("library: step", leaves::steps());
     report.case("library: slice", leaves::slices());
-    report.case("library: agreeing and showing", leaves::agreeing());
     report.case("library: checks of small calls", leaves::checks());
     report.case("library: checks of wide calls", leaves::wide_checks());
-    report.case("library: counts of slices in", stops::counts());
     report.case("library: stop slice", stops::answers());
     report.case("library: expanding", expands::answers());
 }

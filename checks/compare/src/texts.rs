@@ -24,7 +24,7 @@ fn expected(told: &Told, room: usize) -> TextAnswer {
     let (number, value, entries) = match told.answer {
         Err(Refused { number, value }) => (number as usize, value as usize, 0),
         Ok(entries) if needed <= room => (0, needed, entries),
-        Ok(_) => (9, needed, 0),
+        Ok(entries) => (9, needed, entries),
     };
     TextAnswer {
         number,

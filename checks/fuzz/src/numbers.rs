@@ -4,7 +4,7 @@
 use crate::lent::{lend, room};
 use crate::parts::{weights, Bytes, Parts};
 use second::Refused;
-use seeds::raw::{Answer, CubesAnswer, SeedAnswer, StopAnswer};
+use seeds::raw::{Answer, CubesAnswer, SeedAnswer, SliceAnswer, StateAnswer, StopAnswer};
 use seeds::{entries, Machine, Settings, TestSlice, TestSlices};
 
 /// The number and value of an answer, where `Ok` has the value of an accepted call.
@@ -63,29 +63,44 @@ impl Parts {
     }
 }
 
-/// The register rule and the comparisons of slices. Outside what is lawful, where no refusal is given, document 01 says nothing:
-/// taps and state are cut to the cells, and the stop's bits to its positions.
-fn leaves(p: &Parts, word: u64) {
-    let held = weights(p.cells);
-    let (taps, state) = (p.taps & held, word & held);
-    let next = seeds::step(Settings::new(p.cells, taps), state);
-    assert_eq!(next, second::step(p.cells as u64, taps, state), "step");
-    let slice = seeds::slice(&p.masks, word);
-    assert_eq!(slice, second::slice(&p.masks, word), "slice");
-    let stop = TestSlice {
-        specified: p.stop.0,
-        bits: p.stop.0 & p.stop.1,
+/// Cause 10 of a state: it is the one seed that is handed in, so its place is 0.
+fn check_state(cells: usize, state: u64) -> Result<(), Refused> {
+    match state & !weights(cells) {
+        0 => Ok(()),
+        _ => Err(Refused {
+            number: 10,
+            value: 0,
+        }),
+    }
+}
+
+/// One step and the slice of a state.
+fn state(p: &Parts, word: u64, choice: u8) {
+    let state = match choice % 4 {
+        0 => word,
+        _ => word & weights(p.cells),
     };
-    let theirs = second::agrees(stop.specified, stop.bits, slice);
-    assert_eq!(seeds::agrees(stop, slice), theirs, "agreeing");
-    let theirs = second::shows(stop.specified, stop.bits, slice);
-    assert_eq!(seeds::shows(stop, slice), theirs, "showing");
-    let pairs = p.specified.iter().zip(&p.bits);
-    let has = |&(&specified, &bits): &(&u64, &u64)| {
-        specified & stop.specified == stop.specified && bits & stop.specified == stop.bits
+    let cells = p.cells as u64;
+    let judged = second::check_register(cells, p.taps);
+    let stepped = judged.and_then(|_| check_state(p.cells, state));
+    let Answer { number, value } = told(stepped.map(|_| 0));
+    let ours = entries::step(p.machine().settings, state);
+    let known = StateAnswer {
+        number,
+        value,
+        state: stepped.map_or(0, |_| second::step(cells, p.taps, state)),
     };
-    let count = pairs.filter(has).count();
-    assert_eq!(seeds::count_in(stop, p.set()), count, "slices in");
+    assert_eq!(ours, known, "the step");
+    let judged = judged.and_then(|_| second::check_chains(cells, &p.masks));
+    let sliced = judged.and_then(|_| check_state(p.cells, state));
+    let Answer { number, value } = told(sliced.map(|_| 0));
+    let ours = entries::slice(p.machine(), state);
+    let known = SliceAnswer {
+        number,
+        value,
+        slice: sliced.map_or(0, |_| second::slice(&p.masks, state)),
+    };
+    assert_eq!(ours, known, "the slice");
 }
 
 /// The stop slice and its check.
@@ -234,7 +249,7 @@ pub fn run(data: &[u8], choice: u8) {
         2 => cubes(&parts, choice),
         3 => expanding(&parts, choice),
         4 => stop(&parts),
-        _ => leaves(&parts, word),
+        _ => state(&parts, word, choice),
     }
     assert_eq!(format!("{parts:?}"), before, "what was handed in");
 }

@@ -35,7 +35,7 @@ fn expected(printed: &[u8], key: &[u8], room: usize) -> TextAnswer {
     let (number, value, entries) = match refusal(printed) {
         Some((number, value)) => (number, value, 0),
         None if needed <= room => (0, needed, lines(printed, key)),
-        None => (9, needed, 0),
+        None => (9, needed, lines(printed, key)),
     };
     TextAnswer {
         number,

@@ -1,7 +1,7 @@
 // How each seed of a list runs to its stop slice over the test slices of its sheet. States and slices are the library's.
 
 use crate::text;
-use seeds::{Settings, TestSlice};
+use seeds::{Machine, Settings, TestSlice};
 
 /// One slice of a seed: the state that it comes from, and the test slice, or at the end the stop slice, that it is held against.
 pub struct Moment {
@@ -25,6 +25,11 @@ pub struct Sheet {
     pub masks: Vec<u64>,
     pub stop: TestSlice,
     pub windows: Vec<Window>,
+}
+
+/// Whether a slice has each specified bit of a test slice or stop slice.
+fn has_bits(test: TestSlice, slice: u64) -> bool {
+    slice & test.specified == test.bits
 }
 
 impl Sheet {
@@ -57,13 +62,15 @@ impl Sheet {
 
     /// The window of a seed from a test slice on.
     fn window(&self, seed: u64, start: usize, tests: &[TestSlice]) -> Result<Window, String> {
+        let refused = |why: seeds::Refusal| format!("the seed {seed:x} is refused: {why}");
+        let machine = Machine::new(Settings::new(self.cells, self.taps), &self.masks);
         let mut moments = Vec::new();
         let mut state = seed;
         for &test in tests[start..].iter().chain([&self.stop]) {
-            let slice = seeds::slice(&self.masks, state);
-            let stops = seeds::shows(self.stop, slice);
+            let slice = seeds::slice(machine, state).map_err(refused)?;
+            let stops = has_bits(self.stop, slice);
             let against = if stops { self.stop } else { test };
-            if !seeds::agrees(against, slice) {
+            if !has_bits(against, slice) {
                 break;
             }
             moments.push(Moment {
@@ -78,7 +85,7 @@ impl Sheet {
                     moments,
                 });
             }
-            state = seeds::step(Settings::new(self.cells, self.taps), state);
+            state = seeds::step(machine.settings, state).map_err(refused)?;
         }
         Err(format!("the seed {seed:x} does not run to its stop slice"))
     }

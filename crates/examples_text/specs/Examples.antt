@@ -164,11 +164,11 @@ table =
     ∷ record { asked = expand (R "stop=0x\nslices=4\nseed=3\n"); told = prints (bytes "refused=14\nat=2\n") }
     -- every line is read before that
     ∷ record { asked = expand (R "stop=0x\nslices=4\nseed=8\nseed=g\n"); told = prints (bytes "refused=13\nat=9\n") }
-    -- the sheet's list in a buffer with one byte more, and with one byte less
+    -- the sheet's list in a buffer with one byte more, and with one byte less: 71 bytes, 2 seeds
     ∷ record { asked = encode-into 72 (R "depth=2\nslice=10\nslice=x1\nslice=1x\nslice=1x\n"); told = leaves (Text 71 2) (bytes "cells=3\ntaps=6\nchains=2\nchain=1\nchain=4\nstop=0x\nslices=4\nseed=3\nseed=3\n" ++ old 1) }
-    ∷ record { asked = encode-into 70 (R "depth=2\nslice=10\nslice=x1\nslice=1x\nslice=1x\n"); told = leaves (Refused (record { number = 9; value = 71 })) (old 70) }
+    ∷ record { asked = encode-into 70 (R "depth=2\nslice=10\nslice=x1\nslice=1x\nslice=1x\n"); told = leaves (Refused (record { number = 9; value = 71 }) 2) (old 70) }
     -- a refused text leaves the buffer as it was
-    ∷ record { asked = expand-into 40 (R "stop=xx\n"); told = leaves (Refused (record { number = 5; value = 6 })) (old 40) }
+    ∷ record { asked = expand-into 40 (R "stop=xx\n"); told = leaves (Refused (record { number = 5; value = 6 }) 0) (old 40) }
     ∷ []
 
 pub answers : List Row → List Told

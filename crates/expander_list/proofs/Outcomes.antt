@@ -3,6 +3,7 @@
 --     Found, found                                the slices that the seeds deliver
 --     found-whole                                 they are written
 --     call-refused, call-formed                   the whole call, by its checks
+--     call-unmade                                 with a register that the constructor refuses
 --     call-sized, few-seeds                       a well-formed call fits words, and has at most 2,048 seeds
 -- Assumes nothing.
 use mathlib.Core.Path.{_≡_, refl, sym, ap, _∙_}
@@ -15,17 +16,22 @@ use lib.Dec.{eqb}
 use lib.Seq.{sets, sets-eq}
 use borrow.Author.Tests.{eq-eqb, ne-eqb}
 use Rattle.refusal_causes.specs.declared.Cause.{Cause}
+use Rattle.refusal_causes.specs.declared.Cause.the-variants as cause
 use Rattle.refusal_causes.specs.declared.Cause.the-variants.{NoSpace, Total}
 use Rattle.refusal_causes.specs.declared.Written.the-variants.{Count, Refused}
 use Rattle.refusal_causes.specs.Outcome.{refuse, fill}
 use Rattle.refusal_causes.proofs.Outcome.{fill-whole, fill-short}
 use Rattle.machine_settings.specs.declared.Settings.{Settings}
 use Rattle.machine_settings.specs.Machine.{Machine, machine}
+use Rattle.machine_register.specs.Register.{madeOf}
+use Rattle.machine_register.specs.declared.Made.the-variants as made
 use Rattle.machine_register.proofs.Causes.{cells-within}
+use Rattle.machine_register.proofs.Making.{made-refused}
 use Rattle.machine_slices.specs.declared.TestSlice.{TestSlice}
 use Rattle.machine_slices.specs.Slices.{badStop}
-use Rattle.refusal_order.specs.Order.{judged}
-use Rattle.refusal_checks.specs.Calls.{listFaults}
+use Rattle.refusal_order.specs.Order.{tests, judged}
+use Rattle.refusal_order.proofs.Order.{first-here}
+use Rattle.refusal_checks.specs.Calls.{callFaults, listFaults}
 use Rattle.refusal_order.specs.declared.Verdict.{Verdict}
 use Rattle.refusal_lengths.specs.Lengths.{badList}
 use Rattle.refusal_lengths.proofs.Lengths.{list-within}
@@ -92,6 +98,12 @@ module _ (g : Settings) (masks : List ℕ) (stop : TestSlice) (n : ℕ) (seeds o
   pub call-refused : (c : Cause) → verdict-of ≡ verdict.Refused c → expandList g masks stop n seeds out ≡ refuse c out
   unfolding expandList
   call-refused c e = rw (e, expandList)
+
+  pub call-unmade : (c : Cause) → madeOf (g .cells) (g .taps) ≡ made.Refused c → expandList g masks stop n seeds out ≡ refuse c out
+  unfolding judged tests listFaults callFaults
+  call-unmade c e =
+      let m = made-refused (g .cells) (g .taps) c e in
+      rw (m .1) (call-refused cause.Register (first-here _ _ (m .0)))
 
   module _ (w : verdict-of ≡ verdict.WellFormed) where
     pub call-formed : expandList g masks stop n seeds out ≡ expanding (machine g masks) (rules g stop) n seeds out

@@ -13,8 +13,8 @@ use native.Mathlib.Omega.{arith}
 use lib.ListN.{take}
 use Rattle.machine_settings.specs.declared.Settings.{Settings}
 use Rattle.machine_register.specs.Register.{stepOf}
-use Rattle.machine_chains.specs.Chains.{slice}
-use Rattle.machine_settings.specs.Machine.{Machine, machine}
+use Rattle.machine_register.specs.declared.Register.{Register}
+use Rattle.machine_settings.specs.Machine.{registerOf, Machine, machine}
 use Rattle.machine_settings.proofs.Machine.{machine-slice, machine-step}
 use Rattle.machine_slices.specs.declared.TestSlice.{TestSlice}
 use Rattle.machine_slices.specs.Slices.{shows}
@@ -58,11 +58,11 @@ module _ (M : Machine) (stop : TestSlice) (limit seed : ℕ) where
 
 -- what the code computes on words
 module _ (g : Settings) (masks : List ℕ) (ready : Sized g masks) (s : ℕ) where
-  pub sliced : (v : ℕ) → v ≡ slice (take 64 masks) s → machine g masks .slice s ≡ v
+  pub sliced : (v : ℕ) → v ≡ machine g (take 64 masks) .slice s → machine g masks .slice s ≡ v
   sliced v e = sym (e ∙ machine-slice g masks s (ready .chains))
 
-  pub shown : (stop : TestSlice) (v : ℕ) (b : Bool) → v ≡ slice (take 64 masks) s → b ≡ shows stop v → shows stop (machine g masks .slice s) ≡ b
+  pub shown : (stop : TestSlice) (v : ℕ) (b : Bool) → v ≡ machine g (take 64 masks) .slice s → b ≡ shows stop v → shows stop (machine g masks .slice s) ≡ b
   shown stop v b e f = ap (shows stop) (sliced v e) ∙ sym f
 
-  pub stepped : (x : ℕ) → x ≡ stepOf (record { cells = g .cells; taps = g .taps }) s → machine g masks .step s ≡ x
-  stepped x e = sym (e ∙ machine-step g masks s (ready .cells))
+  pub stepped : (r : Register) → r ≡ registerOf g → (x : ℕ) → x ≡ stepOf r s → machine g masks .step s ≡ x
+  stepped r q x e = sym (e ∙ ap (λ (t : Register). stepOf t s) q ∙ machine-step g masks s (ready .cells))

@@ -7,7 +7,7 @@ ghost use mathlib.Core.List.{List};
 ghost use Prim.Native.Nat.{ℕ, _+_, _-_, _≤_};
 ghost use lib.ListN.{length};
 ghost use lib.Seq.{sets};
-ghost use Rattle.machine_settings.specs.Machine.{machine};
+ghost use Rattle.machine_settings.specs.Machine.{registerOf, machine};
 ghost use Rattle.theory_covering.specs.Rules.{rules};
 ghost use Rattle.expander_meaning.specs.Expanding.{ran, walk};
 ghost use Rattle.expander_meaning.specs.Sized.{Sized};
@@ -16,6 +16,7 @@ ghost use Rattle.expander_writing.specs.Until.{untilStop};
 // Writes the slices of a seed up to its stop, from a place of the buffer on and as far as the buffer goes; answers the place behind them.
 fn write_run(
     settings: Settings,
+    register: Register,
     masks: &[u64],
     stop: TestSlice,
     seed: u64,
@@ -24,17 +25,14 @@ fn write_run(
 ) -> usize
     requires ready { ⌜ Sized settings (now masks) ⌝ }
     requires place { ⌜ at ≤ length (now out) ⌝ }
+    requires made { ⌜ register ≡ registerOf settings ⌝ }
     ensures place { λ r. ⌜ r ≡ at + length (untilStop (machine settings (now (masks .entry))) stop (length (now (out .entry)) - at) seed) ⌝ }
     ensures buffer { λ _. ⌜ now (out .exit) ≡ sets (now (out .entry)) at (untilStop (machine settings (now (masks .entry))) stop (length (now (out .entry)) - at) seed) ⌝ }
 {
-    let register = Register {
-        cells: settings.cells,
-        taps: settings.taps,
-    };
     let mut state = seed;
     let mut i = at;
     while i < out.len() {
-        let slice = machine_chains::slice(masks, state);
+        let slice = machine_settings::slice(settings, masks, state);
         if machine_slices::shows(stop, slice) {
             break;
         }
@@ -46,15 +44,23 @@ fn write_run(
 }
 
 // Writes the slices of all seeds, one behind the other.
-// An inner function: its callers show that register and chains fit words. Where a seed is refused or the buffer is too short, nothing is promised of the entries: its caller has ruled that out.
-pub fn write_all(settings: Settings, masks: &[u64], stop: TestSlice, seeds: &[u64], out: &mut [u64])
-    requires { ⌜ Sized settings (now masks) ⌝ }
+// An inner function: its callers show that register and chains fit words and that the register is that of the settings. Where a seed is refused or the buffer is too short, nothing is promised of the entries: its caller has ruled that out.
+pub fn write_all(
+    settings: Settings,
+    register: Register,
+    masks: &[u64],
+    stop: TestSlice,
+    seeds: &[u64],
+    out: &mut [u64],
+)
+    requires ready { ⌜ Sized settings (now masks) ⌝ }
+    requires made { ⌜ register ≡ registerOf settings ⌝ }
     ensures { λ _. ⌜ ((n : ℕ) (vs : List ℕ) → walk (machine settings (now (masks .entry))) (rules settings stop) n 0 0 (now (seeds .entry)) ≡ ran vs → length vs ≤ length (now (out .entry)) → now (out .exit) ≡ sets (now (out .entry)) 0 vs) ⌝ }
 {
     let mut at = 0;
     let mut place = 0;
     while place < seeds.len() {
-        at = write_run(settings, masks, stop, seeds[place], at, out);
+        at = write_run(settings, register, masks, stop, seeds[place], at, out);
         place += 1;
     }
 }

@@ -2,7 +2,7 @@
 --     answerOf written              number 0 with the entries written, or the number and value of the refusal
 --     seedAnswerOf seed             number 0 with the seed, or the number and value of the refusal, and seed 0
 --     cubesAnswerOf encoded         number 0 with the seeds written and the stop slice, or the number and value of the refusal, and no position
---     textAnswerOf answer           number 0 with the bytes written and their seeds or slices, or the number and value of the refusal, and 0
+--     textAnswerOf answer           number 0 with the bytes written and their seeds or slices, or the number and value of the refusal, and the seeds or slices beside it
 use Rattle.refusal_causes.specs.Sheet.{refusalOf}
 use Rattle.refusal_causes.specs.declared.Written.{Written}
 use Rattle.theory_covering.specs.declared.Seed.{Seed}
@@ -31,4 +31,4 @@ cubesAnswerOf (encoded.Refused c) = record { number = refusalOf c .number; value
 
 abbrev pub textAnswerOf : textAnswer.Answer → TextAnswer
 textAnswerOf (texts.Text bytes entries) = record { number = 0; value = bytes; entries = entries }
-textAnswerOf (texts.Refused r) = record { number = r .number; value = r .value; entries = 0 }
+textAnswerOf (texts.Refused r n) = record { number = r .number; value = r .value; entries = n }

@@ -29,7 +29,7 @@ pub struct CubesAnswer {
     pub bits: u64,
 }
 
-// The answer of a text call: number 0 with the bytes written and how many seeds or slices they say, or the number and value of the refusal, and 0.
+// The answer of a text call: number 0 with the bytes written and how many seeds or slices they say; or the number and value of the refusal, and beside cause 9 how many seeds or slices enough space would have given, else 0.
 #[repr(C)]
 pub struct TextAnswer {
     pub number: usize,
@@ -110,10 +110,10 @@ pub fn text_answer_of(answer: text_replies::Answer) -> TextAnswer
             value: bytes,
             entries,
         },
-        text_replies::Answer::Refused(refusal) => TextAnswer {
+        text_replies::Answer::Refused(refusal, entries) => TextAnswer {
             number: refusal.number,
             value: refusal.value,
-            entries: 0,
+            entries,
         },
     }
 }

@@ -1,2 +1,3 @@
 -- What the entries on numbers answer.
+pub mod States
 pub mod Stop

@@ -1,17 +1,30 @@
-// The entries on numbers: a step, a slice, the comparisons, and the stop slice with its counts.
+// The entries on numbers: a step, a slice, and the stop slice.
 use face_values::Settings;
+use machine_register::Made;
 use machine_register::Register;
-use machine_slices::TestSlice;
+use refusal_causes::Cause;
 use stop_slice::Formed;
 ghost use mathlib.Core.Path.{_≡_};
-ghost use lib.ListN.{take};
-ghost use Rattle.machine_register.specs.Register.{stepOf};
-ghost use Rattle.machine_chains.specs.Chains.{slice as sliceOf};
-ghost use Rattle.machine_slices.specs.Slices.{agrees as agreesOf, shows as showsOf};
-ghost use Rattle.stop_steps.specs.Lookup.{inCount};
 ghost use Rattle.stop_slice.specs.Entry.{stopOf};
-ghost use Rattle.face_values.specs.Values.{registerOf, testSliceOf};
+ghost use Rattle.face_values.specs.Values.{settingsOf};
+ghost use Rattle.face_numbers.specs.States.{stepCall, sliceCall, stepFound, sliceFound, noState, noSlice};
 ghost use Rattle.face_numbers.specs.Stop.{stopAnswerOf};
+
+// The answer of the call for a step: number 0 with the state after it, or the number and value of the refusal, and state 0.
+#[repr(C)]
+pub struct StateAnswer {
+    pub number: usize,
+    pub value: usize,
+    pub state: u64,
+}
+
+// The answer of the call for a slice: number 0 with the slice, or the number and value of the refusal, and slice 0.
+#[repr(C)]
+pub struct SliceAnswer {
+    pub number: usize,
+    pub value: usize,
+    pub slice: u64,
+}
 
 // The answer of the call for a stop slice: number 0 with the stop slice, or the number and value of the refusal, and no position.
 #[repr(C)]
@@ -22,51 +35,79 @@ pub struct StopAnswer {
     pub bits: u64,
 }
 
-// One step of the register from a state; of more than 64 cells the first 64 count.
-pub fn step(settings: Settings, state: u64) -> u64
-    ensures { λ r. ⌜ r ≡ stepOf (registerOf settings) state ⌝ }
+// The refusal of a call for a step.
+fn no_state(cause: Cause) -> StateAnswer
+    ensures { λ r. ⌜ r ≡ noState cause ⌝ }
 {
-    let register = Register {
-        cells: settings.cells,
-        taps: settings.taps,
-    };
-    register.step(state)
+    let refusal = refusal_causes::refusal_of(cause);
+    StateAnswer {
+        number: refusal.number,
+        value: refusal.value,
+        state: 0,
+    }
 }
 
-// The slice of a state; of more than 64 masks the first 64 count.
-pub fn slice(masks: &[u64], state: u64) -> u64
-    ensures { λ r. ⌜ r ≡ sliceOf (take 64 (now (masks .entry))) state ⌝ }
+// The refusal of a call for a slice.
+fn no_slice(cause: Cause) -> SliceAnswer
+    ensures { λ r. ⌜ r ≡ noSlice cause ⌝ }
 {
-    machine_chains::slice(masks, state)
+    let refusal = refusal_causes::refusal_of(cause);
+    SliceAnswer {
+        number: refusal.number,
+        value: refusal.value,
+        slice: 0,
+    }
 }
 
-// Whether a slice agrees with a test slice.
-pub fn agrees(specified: u64, bits: u64, slice: u64) -> bool
-    ensures { λ r. ⌜ r ≡ agreesOf (testSliceOf specified bits) slice ⌝ }
+// The step of a lawful register, or cause 10.
+fn step_found(register: Register, state: u64) -> StateAnswer
+    ensures { λ r. ⌜ r ≡ stepFound register state ⌝ }
 {
-    machine_slices::agrees(TestSlice { specified, bits }, slice)
+    if words_gf2::beyond(register.cells, state) {
+        return no_state(Cause::SeedBeyond(0));
+    }
+    StateAnswer {
+        number: 0,
+        value: 0,
+        state: register.step(state),
+    }
 }
 
-// Whether a slice shows the stop slice.
-pub fn shows(stop_specified: u64, stop_bits: u64, slice: u64) -> bool
-    ensures { λ r. ⌜ r ≡ showsOf (testSliceOf «stop_specified» «stop_bits») slice ⌝ }
+// One step of the register from a state: cause 1, then 10.
+pub fn step(settings: Settings, state: u64) -> StateAnswer
+    ensures { λ r. ⌜ r ≡ stepCall (settingsOf settings) state ⌝ }
 {
-    let stop = TestSlice {
-        specified: stop_specified,
-        bits: stop_bits,
-    };
-    machine_slices::shows(stop, slice)
+    match Register::new(settings.cells, settings.taps) {
+        Made::Register(register) => step_found(register, state),
+        Made::Refused(cause) => no_state(cause),
+    }
 }
 
-// How many test slices have the stop's bit at each position of the stop that is set; of two lists unequally long, the shorter counts. Under a stop slice with a bit that is not specified, none has.
-pub fn count_in(stop_specified: u64, stop_bits: u64, specified: &[u64], bits: &[u64]) -> usize
-    ensures { λ r. ⌜ r ≡ inCount (testSliceOf «stop_specified» «stop_bits») (now (specified .entry)) (now (bits .entry)) ⌝ }
+// The slice of a state of a lawful register, or causes 2 and 10.
+fn slice_found(settings: machine_settings::Settings, masks: &[u64], state: u64) -> SliceAnswer
+    ensures { λ r. ⌜ r ≡ sliceFound settings (now (masks .entry)) state ⌝ }
 {
-    let stop = TestSlice {
-        specified: stop_specified,
-        bits: stop_bits,
-    };
-    stop_counting::count_in(stop, specified, bits)
+    if machine_chains::bad_chains(settings.cells, masks) {
+        return no_slice(Cause::Chains);
+    }
+    if words_gf2::beyond(settings.cells, state) {
+        return no_slice(Cause::SeedBeyond(0));
+    }
+    SliceAnswer {
+        number: 0,
+        value: 0,
+        slice: machine_settings::slice(settings, masks, state),
+    }
+}
+
+// The slice of a state: causes 1 and 2, then 10.
+pub fn slice(settings: Settings, masks: &[u64], state: u64) -> SliceAnswer
+    ensures { λ r. ⌜ r ≡ sliceCall (settingsOf settings) (now (masks .entry)) state ⌝ }
+{
+    if machine_register::bad_register(settings.cells, settings.taps) {
+        return no_slice(Cause::Register);
+    }
+    slice_found(face_values::settings_of(settings), masks, state)
 }
 
 // The number, value and stop slice of a call for one.

@@ -1,16 +1,11 @@
 -- Numbers at the boundary: what an entry hands to the definitions.
---     registerOf s                  the register of the settings
 --     settingsOf s                  the settings of the call: windows of up to 256 slices
 --     testSliceOf specified bits    the test slice or stop slice of two numbers
 use Prim.Native.Nat.{ℕ}
-use Rattle.machine_register.specs.declared.Register.{Register}
 use Rattle.machine_settings.specs.Machine.{base}
 use Rattle.machine_settings.specs.declared.Settings as called
 use Rattle.machine_slices.specs.declared.TestSlice.{TestSlice}
 use Rattle.face_values.specs.declared.Settings.{Settings}
-
-abbrev pub registerOf : Settings → Register
-registerOf s = record { cells = s .cells; taps = s .taps }
 
 abbrev pub settingsOf : Settings → called.Settings
 settingsOf s = base (s .cells) (s .taps)

@@ -3,27 +3,25 @@
 --     machine-step      the step of a register of at most 64 cells
 --     machine-states    a state has no bit at or above cells
 -- Assumes nothing.
-use mathlib.Core.Path.{_≡_, refl, sym, ap, _∙_}
+use mathlib.Core.Path.{_≡_, refl, ap}
 use mathlib.Core.Bool.{Bool, true, false, not}
 use mathlib.Core.List.{List}
 use Prim.Native.Nat.{ℕ, _≤_, _^_, min}
 use native.Mathlib.Omega.{arith}
-use lib.Bits.{xor-zero-r}
 use lib.Dec.{ltb, leb}
 use lib.Seq.{take-all}
 use lib.ListN.{length, take}
 use borrow.Author.Tests.{leb-true, leb-false, lt-ltb, le-ltb}
 use Rattle.words_gf2.specs.Words.{beyond}
 use Rattle.machine_register.specs.Register.{stepOf}
-use Rattle.machine_chains.specs.Chains.{slice}
-use Rattle.machine_settings.specs.Machine.{machine}
+use Rattle.machine_settings.specs.Machine.{registerOf, machine}
 use Rattle.machine_settings.specs.declared.Settings.{Settings}
 
 module _ (g : Settings) (masks : List ℕ) (s : ℕ) where
-  pub machine-slice : length masks ≤ 64 → slice (take 64 masks) s ≡ machine g masks .slice s
-  machine-slice h = ap (λ (l : List ℕ). slice l s) (take-all 64 masks h) ∙ sym (xor-zero-r (slice masks s))
+  pub machine-slice : length masks ≤ 64 → machine g (take 64 masks) .slice s ≡ machine g masks .slice s
+  machine-slice h = ap (λ (l : List ℕ). machine g l .slice s) (take-all 64 masks h)
 
-  pub machine-step : g .cells ≤ 64 → stepOf (record { cells = g .cells; taps = g .taps }) s ≡ machine g masks .step s
+  pub machine-step : g .cells ≤ 64 → stepOf (registerOf g) s ≡ machine g masks .step s
   unfolding stepOf
   machine-step h = let e : min 64 (g .cells) ≡ g .cells = omega arith in rw e
 

@@ -1,6 +1,7 @@
 -- Register and chains together, and the settings of a call (document 01, "Register and chains", and "Covering and cutting" on the longest window).
 --     longestWindow             the longest window of the base, in slices
 --     base cells taps           the settings of the base: windows of up to 256 slices
+--     registerOf g              the register of the settings, by its cells and taps
 --     Machine                   what covering, cutting and expanding see of register and chains: the states are the numbers below `states`; the slice and the next state of each
 --     machineWith               the machine of a register, its chains and its inverted chains
 --     machine g masks           the machine of a call's settings and chains
@@ -8,6 +9,7 @@ use mathlib.Core.List.{List}
 use Prim.Native.Nat.{ℕ, _^_}
 use lib.Bits.{bitXor}
 use Rattle.machine_register.specs.Register.{step}
+use Rattle.machine_register.specs.declared.Register.{Register}
 use Rattle.machine_chains.specs.Chains.{slice}
 use Rattle.machine_settings.specs.declared.Settings.{Settings}
 
@@ -16,6 +18,9 @@ longestWindow = 256
 
 abbrev pub base : ℕ → ℕ → Settings
 base cells taps = record { cells = cells; taps = taps; limit = longestWindow }
+
+abbrev pub registerOf : Settings → Register
+registerOf g = record { cells = g .cells; taps = g .taps }
 
 pub record Machine : Type 0 where
   pub states : ℕ

@@ -2,6 +2,8 @@
 --     NoFault f          none of them holds
 --     well-formed        the checks answer so
 --     formed-well        and only then
+--     first-here         a test that holds answers
+--     first-later        one that does not leaves it to the rest
 -- Assumes nothing.
 use mathlib.Core.Path.{_≡_, refl}
 use mathlib.Core.Bool.{Bool, true, false}
@@ -12,7 +14,7 @@ use Rattle.refusal_causes.specs.declared.Cause.{Cause}
 use Rattle.refusal_causes.specs.declared.Cause.the-variants as cause
 use Rattle.refusal_order.specs.Order.{Test, tests, firstOf, judged}
 use Rattle.refusal_order.specs.declared.Faults.{Faults}
-use Rattle.refusal_order.specs.declared.Verdict.the-variants.{WellFormed}
+use Rattle.refusal_order.specs.declared.Verdict.the-variants.{WellFormed, Refused}
 
 pub record NoFault (f : Faults) : Type 0 where
   pub register : f .register ≡ false
@@ -40,3 +42,12 @@ formed-well f e =
     let d = passed (f .slices) cause.TestSlice _ (c .1) in
     let g = passed (f .stop) cause.StopSlice _ (d .1) in
     record { register = a .0; chains = b .0; lengths = c .0; slices = d .0; stop = g .0 }
+
+module _ (t : Test) (ts : List Test) where
+  pub first-here : t .holds ≡ true → firstOf (t ∷ ts) ≡ Refused (t .refused)
+  unfolding firstOf
+  first-here h = rw (h, firstOf)
+
+  pub first-later : t .holds ≡ false → firstOf (t ∷ ts) ≡ firstOf ts
+  unfolding firstOf
+  first-later h = rw (h, firstOf)

@@ -69,11 +69,12 @@ pub fn branch(
     requires { ⌜ rows * pattern .columns ≤ length (now table) ⌝ }
     ensures { λ r. ⌜ r ≡ lower before (lowestClear pattern (now (table .entry)) rows lowest (take free vectors)) ⌝ }
 {
+    let mut rest = vectors;
     if search_found::reached(before, lowest) {
         return before;
     }
     if is_leaf(pattern, free) {
-        return leaf(pattern, table, rows, lowest, &vectors, free, before);
+        return leaf(pattern, table, rows, lowest, &rest, free, before);
     }
     let row = search_rows::first_shown(pattern, table, rows, lowest);
     if row == rows {
@@ -81,7 +82,6 @@ pub fn branch(
     }
     let columns = pattern.columns;
     let first = row * columns;
-    let mut rest = vectors;
     let mut left = free;
     let mut found = before;
     let mut position: usize = 0;

@@ -16,17 +16,9 @@ use lib.ListN.{length, set, take}
 use lib.Seq.{take-suc-set}
 use lib.Pow.{pow-pos, pow-lt, shl-shr}
 use Rattle.words_gf2.specs.Words.{digit}
-use Rattle.words_gf2.proofs.Digits.{digit-lt, digit-none, digit-suc, digit-zero, one-shifted}
+use Rattle.words_gf2.proofs.Digits.{digit-lt, digit-none, unit-other, one-shifted}
 use Rattle.search_space.specs.Space.{units, ZeroAt, Rising, none, more}
 use Rattle.search_space.proofs.Members.{Among}
-
-digit-unit : (p q : ℕ) → (q ≡ p → ⊥) → digit (2 ^ p) q ≡ 0
-digit-unit zero zero h = absurd (h refl)
-digit-unit zero (suc q) h = digit-suc 1 q ∙ digit-none q
-digit-unit (suc p) zero h = digit-zero (2 ^ suc p) ∙ omega arith
-digit-unit (suc p) (suc q) h =
-    let half : 2 ^ suc p / 2 ≡ 2 ^ p = omega arith in
-    digit-suc (2 ^ suc p) q ∙ rw half (digit-unit p q (λ e. h (ap suc e)))
 
 -- one more digit of a remainder
 mod-more : (x h : ℕ) → x % 2 ^ suc h ≡ digit x h * 2 ^ h + x % 2 ^ h
@@ -74,7 +66,7 @@ units-complete (suc n) h s l =
 zero-units : (h l n : ℕ) → h < l → ZeroAt h (units l n)
 unfolding units
 zero-units h l zero g k r = absurd (omega arith)
-zero-units h l (suc n) g zero r = digit-unit l h (omega arith)
+zero-units h l (suc n) g zero r = unit-other l h (omega arith)
 zero-units h l (suc n) g (suc k) r = zero-units h (suc l) n (omega arith) k (omega arith)
 
 pub units-rising : (n l : ℕ) → Rising 0 l (units l n)

@@ -3,17 +3,14 @@ use face_answers::Answer;
 use face_answers::CubesAnswer;
 use face_answers::SeedAnswer;
 use face_answers::TextAnswer;
+use face_numbers::SliceAnswer;
+use face_numbers::StateAnswer;
 use face_numbers::StopAnswer;
 use face_values::Settings;
 use text_order::Kind;
 ghost use mathlib.Core.Path.{_≡_};
-ghost use lib.ListN.{take};
-ghost use Rattle.machine_register.specs.Register.{stepOf};
-ghost use Rattle.machine_chains.specs.Chains.{slice as sliceOf};
-ghost use Rattle.machine_slices.specs.Slices.{agrees, shows};
 ghost use Rattle.refusal_order.specs.Order.{judged};
 ghost use Rattle.refusal_checks.specs.Calls.{windowFaults, setFaults, cubesFaults, stopFaults, listFaults};
-ghost use Rattle.stop_steps.specs.Lookup.{inCount};
 ghost use Rattle.stop_slice.specs.Entry.{stopOf};
 ghost use Rattle.expander_meaning.specs.Expanding.{expandList};
 ghost use Rattle.theory_covering.specs.Single.{windowSeed, WindowMeaning};
@@ -21,42 +18,29 @@ ghost use Rattle.encoder_meaning.specs.Encoding.{encodeSet};
 ghost use Rattle.encoder_cubes.specs.Cubes.{encodeCubes};
 ghost use Rattle.encoder_meaning.specs.Meaning.{SetMeaning};
 ghost use Rattle.encoder_cubes.specs.Meaning.{CubesMeaning};
+ghost use Rattle.text_order.specs.declared.Kind.the-variants as kinds;
 ghost use Rattle.text_calls.specs.Texts.{encodeCall, expandCall};
-ghost use Rattle.face_values.specs.Values.{registerOf, settingsOf, testSliceOf};
+ghost use Rattle.text_meaning.specs.Calls.{TextMeaning};
+ghost use Rattle.face_values.specs.Values.{settingsOf, testSliceOf};
+ghost use Rattle.face_numbers.specs.States.{stepCall, sliceCall};
 ghost use Rattle.face_numbers.specs.Stop.{stopAnswerOf};
 ghost use Rattle.face_answers.specs.Answers.{answerOf, cubesAnswerOf, seedAnswerOf, textAnswerOf};
 ghost use Rattle.face_checks.specs.Verdicts.{numberOf};
 
-// One step of the register from a state; of more than 64 cells the first 64 count.
+// One step of the register from a state: cause 1, then 10.
 #[no_mangle]
-pub extern "C" fn seeds_step(settings: Settings, state: u64) -> u64
-    ensures { λ r. ⌜ r ≡ stepOf (registerOf settings) state ⌝ }
+pub extern "C" fn seeds_step(settings: Settings, state: u64) -> StateAnswer
+    ensures { λ r. ⌜ r ≡ stepCall (settingsOf settings) state ⌝ }
 {
     face_numbers::step(settings, state)
 }
 
-// The slice of a state; of more than 64 masks the first 64 count.
+// The slice of a state: causes 1 and 2, then 10.
 #[no_mangle]
-pub extern "C" fn seeds_slice(masks: &[u64], state: u64) -> u64
-    ensures { λ r. ⌜ r ≡ sliceOf (take 64 (now (masks .entry))) state ⌝ }
+pub extern "C" fn seeds_slice(settings: Settings, masks: &[u64], state: u64) -> SliceAnswer
+    ensures { λ r. ⌜ r ≡ sliceCall (settingsOf settings) (now (masks .entry)) state ⌝ }
 {
-    face_numbers::slice(masks, state)
-}
-
-// Whether a slice agrees with a test slice.
-#[no_mangle]
-pub extern "C" fn seeds_agrees(specified: u64, bits: u64, slice: u64) -> bool
-    ensures { λ r. ⌜ r ≡ agrees (testSliceOf specified bits) slice ⌝ }
-{
-    face_numbers::agrees(specified, bits, slice)
-}
-
-// Whether a slice shows the stop slice.
-#[no_mangle]
-pub extern "C" fn seeds_shows(stop_specified: u64, stop_bits: u64, slice: u64) -> bool
-    ensures { λ r. ⌜ r ≡ shows (testSliceOf «stop_specified» «stop_bits») slice ⌝ }
-{
-    face_numbers::shows(stop_specified, stop_bits, slice)
+    face_numbers::slice(settings, masks, state)
 }
 
 // The number of the first of causes 1 to 5 that refuses a window, or 0.
@@ -124,19 +108,6 @@ pub extern "C" fn seeds_check_list(
     ensures { λ r. ⌜ r ≡ numberOf (judged (listFaults (settingsOf settings) (now (masks .entry)) (testSliceOf «stop_specified» «stop_bits») slices seeds)) ⌝ }
 {
     face_checks::check_list(settings, masks, stop_specified, stop_bits, slices, seeds)
-}
-
-// How many test slices have the stop's bit at each position of the stop that is set; of two lists unequally long, the shorter counts. Under a stop slice with a bit that is not specified, none has.
-#[no_mangle]
-pub extern "C" fn seeds_count_in(
-    stop_specified: u64,
-    stop_bits: u64,
-    specified: &[u64],
-    bits: &[u64],
-) -> usize
-    ensures { λ r. ⌜ r ≡ inCount (testSliceOf «stop_specified» «stop_bits») (now (specified .entry)) (now (bits .entry)) ⌝ }
-{
-    face_numbers::count_in(stop_specified, stop_bits, specified, bits)
 }
 
 // The stop slice of a set: causes 2, 3, 4, then 6.
@@ -231,11 +202,12 @@ pub extern "C" fn seeds_encode_cubes(
     face_words::encode_cubes(settings, masks, depth, specified, bits, out)
 }
 
-// The seed list of a sheet, written into the buffer as text: the first refused line, then the checks over the whole, then 9 with the bytes needed.
+// The seed list of a sheet, written into the buffer as text: the first refused line, then the checks over the whole, then 9 with the bytes needed and the number of seeds.
 #[no_mangle]
 pub extern "C" fn seeds_encode_text(sheet: &[u8], out: &mut [u8]) -> TextAnswer
     ensures answer { λ r. ⌜ r ≡ textAnswerOf (encodeCall (now (sheet .entry)) (now (out .entry)) .answer) ⌝ }
     ensures buffer { λ _. ⌜ now (out .exit) ≡ encodeCall (now (sheet .entry)) (now (out .entry)) .buffer ⌝ }
+    ensures meaning { λ _. ⌜ TextMeaning kinds.Sheet (now (sheet .entry)) (now (out .entry)) (encodeCall (now (sheet .entry)) (now (out .entry))) ⌝ }
 {
     face_texts::answer_text(Kind::Sheet, sheet, out)
 }
@@ -245,6 +217,7 @@ pub extern "C" fn seeds_encode_text(sheet: &[u8], out: &mut [u8]) -> TextAnswer
 pub extern "C" fn seeds_expand_text(list: &[u8], out: &mut [u8]) -> TextAnswer
     ensures answer { λ r. ⌜ r ≡ textAnswerOf (expandCall (now (list .entry)) (now (out .entry)) .answer) ⌝ }
     ensures buffer { λ _. ⌜ now (out .exit) ≡ expandCall (now (list .entry)) (now (out .entry)) .buffer ⌝ }
+    ensures meaning { λ _. ⌜ TextMeaning kinds.SeedList (now (list .entry)) (now (out .entry)) (expandCall (now (list .entry)) (now (out .entry))) ⌝ }
 {
     face_texts::answer_text(Kind::SeedList, list, out)
 }

@@ -1,7 +1,7 @@
 -- What may still come at a place, where a line with the key k counts c k: an accepted line takes its part of it.
 --     Sound p              the run of the last key is none too long, and none only before the first line
 --     sound-start, sound-step     the start is sound, and a place stays so after a line that is accepted
---     among-one, other-after      a key other than the last that may stand there is one that may stand after its lines
+--     other-after                 a key other than the last that may stand there is one that may stand after its lines
 --     later k ks           the keys behind the key k in ks
 --     sameKeys, same-keys  the same keys in the same order
 --     isEnd ks js          the keys ks are the last of js
@@ -28,7 +28,7 @@ use Rattle.text_lines.specs.declared.Entry.{Entry}
 use Rattle.text_order.specs.Order.{after, missing, among, inOrder}
 use Rattle.text_order.specs.declared.Kind.{Kind}
 use Rattle.text_order.specs.declared.Kind.the-variants.{Sheet, SeedList}
-use Rattle.text_order.proofs.Standing.{missing-none, stand-first, stand-chain, stand-after}
+use Rattle.text_order.proofs.Standing.{missing-none, stand-first, stand-chain, stand-after, among-one}
 use Rattle.text_place.specs.Places.{start, runOf, moved}
 use Rattle.text_place.specs.declared.Place.{Place}
 use Rattle.text_place.proofs.Runs.{run-here, run-none}
@@ -48,14 +48,6 @@ module _ (kind : Kind) where
   sound-step p e a = record { few = let f = accepted-fewer kind p e a in omega arith; first = λ z. absurd (omega arith) }
 
   -- ---- which key an accepted line has: the last one, or one after it
-
-  among-one : (k j : Key) → among k (j ∷ []) ≡ true → k ≡ j
-  unfolding among
-  among-one k j e = go (same k j) refl e
-    where
-      go : (b : Bool) → same k j ≡ b → (b || false) ≡ true → k ≡ j
-      go true s e = same-is k j s
-      go false s e = cc
 
   other-after : (p : Place) (k : Key) → Sound p → inOrder kind p k ≡ true → same (p .last) k ≡ false → among k (after kind (p .last)) ≡ true
   unfolding inOrder

@@ -51,6 +51,6 @@ module _ (kind : Kind) (s : List ℕ) where
     unfolding callOf replyTo concluded
     call-whole w a after l = rw (sym e ∙ w) l
 
-    pub call-refused : (c : Refusal) → r ≡ Refused c → (answers.Refused c ≡ callOf kind s out .answer) × (out ≡ callOf kind s out .buffer)
+    pub call-refused : (c : Refusal) → r ≡ Refused c → (answers.Refused c 0 ≡ callOf kind s out .answer) × (out ≡ callOf kind s out .buffer)
     unfolding callOf replyTo concluded
     call-refused c f = rw (sym e ∙ f) (refused-leaves c out)

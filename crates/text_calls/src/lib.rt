@@ -12,7 +12,7 @@ ghost use Rattle.text_replies.specs.Calls.{called};
 ghost use Rattle.text_calls.specs.Texts.{replyOf, callOf};
 
 // A number that is no key's rank.
-const NO_KEY: u64 = 9;
+const NO_KEY: u64 = text_keys::COUNT as u64;
 
 // The numbers of all lines that a text can have, three a line.
 const MOST_NUMBERS: usize = 6351;
@@ -37,6 +37,6 @@ pub fn call(kind: Kind, text: &[u8], out: &mut [u8]) -> Answer
     let mut entries = [NO_KEY; MOST_NUMBERS];
     match text_reading::scan(kind, text, &mut entries) {
         Scanned::Whole => answer_entries(kind, &entries, out),
-        Scanned::Refused(refusal) => Answer::Refused(refusal),
+        Scanned::Refused(refusal) => Answer::Refused(refusal, 0),
     }
 }

@@ -34,7 +34,7 @@ fn reply_list(
             );
             text_replies::answered(n, written)
         }
-        Encoded::Refused(cause) => Answer::Refused(refusal_causes::refusal_of(cause)),
+        Encoded::Refused(cause) => Answer::Refused(refusal_causes::refusal_of(cause), 0),
     }
 }
 

@@ -21,7 +21,7 @@ fn reply_slices(chains: usize, slices: &[u64], written: Written, out: &mut [u8])
             let lines = text_write_slices::write_slices(out, chains, &slices[..count]);
             text_replies::answered(n, lines)
         }
-        Written::Refused(cause) => Answer::Refused(refusal_causes::refusal_of(cause)),
+        Written::Refused(cause) => Answer::Refused(refusal_causes::refusal_of(cause), 0),
     }
 }
 

@@ -1,27 +1,20 @@
 -- Sets of keys as words (`setOf`): the bit of a key tells whether it is among them.
---     unit-same, unit-other     the digits of a single bit
---     set-among                 the bit of a key
+--     set-among     the bit of a key
 -- Assumes nothing.
 use mathlib.Core.Bool.{Bool, true, false, _||_}
 use mathlib.Core.Path.{_≡_, refl, ap, _∙_}
 use mathlib.Core.List.{List, [], _∷_}
-use Prim.Native.Nat.{ℕ, _+_, _*_, _^_}
+use Prim.Native.Nat.{ℕ, _^_}
 use native.Mathlib.Omega.{arith}
 use borrow.Author.Tests.{eqb-true, eqb-false, eq-eqb}
 use lib.Bits.{bitOr}
 use lib.Dec.{eqb}
 use Rattle.words_gf2.specs.Words.{digit}
-use Rattle.words_gf2.proofs.Digits.{digit-lt, digit-none, digit-or, put-same, put-other}
+use Rattle.words_gf2.proofs.Digits.{digit-lt, digit-none, digit-or, unit-same, unit-other}
 use Rattle.text_keys.specs.Keys.{rank, same}
 use Rattle.text_keys.specs.declared.Key.{Key}
 use Rattle.text_order.specs.Order.{among}
 use Rattle.text_order.specs.Sets.{setOf}
-
-unit-same : (p : ℕ) → digit (2 ^ p) p ≡ 1
-unit-same p = let e : 0 + 1 * 2 ^ p ≡ 2 ^ p = omega arith in rw e at (put-same 1 (omega arith) 0 p (digit-none p))
-
-unit-other : (p i : ℕ) → (i ≡ p → ⊥) → digit (2 ^ p) i ≡ 0
-unit-other p i h = let e : 0 + 1 * 2 ^ p ≡ 2 ^ p = omega arith in (rw e at (put-other 1 (omega arith) 0 p i (digit-none p) h)) ∙ digit-none i
 
 pub set-among : (ks : List Key) (k : Key) → eqb (digit (setOf ks) (rank k)) 1 ≡ among k ks
 unfolding among same

@@ -35,7 +35,7 @@ pub record Accepted (kind : Kind) (p : Place) (e : Entry) : Type 0 where
   pub ranges : outOfRange p (e .key) (e .first) ≡ false
 
 module _ (kind : Kind) (p : Place) (e : Entry) where
-  tested-accepted : (f : Entry) → tested kind p f ≡ Said e → (f ≡ e) × Accepted kind p f
+  pub tested-accepted : (f : Entry) → tested kind p f ≡ Said e → (f ≡ e) × Accepted kind p f
   tested-accepted f t = go (inOrder kind p (f .key)) refl (outOfRange p (f .key) (f .first)) refl
     where
       go : (a : Bool) → inOrder kind p (f .key) ≡ a → (b : Bool) → outOfRange p (f .key) (f .first) ≡ b → (f ≡ e) × Accepted kind p f

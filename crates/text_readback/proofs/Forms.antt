@@ -52,15 +52,15 @@ value-formed chains k v h =
     ∙ rw drop-append-seam
 
 module _ (chains : ℕ) (e : Entry) where
-  value-decimal : notation (e .key) ≡ Decimal → value chains e ≡ numeral 10 (e .first)
+  pub value-decimal : notation (e .key) ≡ Decimal → value chains e ≡ numeral 10 (e .first)
   unfolding value
   value-decimal d = rw (d, value)
 
-  value-hexadecimal : notation (e .key) ≡ Hexadecimal → value chains e ≡ numeral 16 (e .first)
+  pub value-hexadecimal : notation (e .key) ≡ Hexadecimal → value chains e ≡ numeral 16 (e .first)
   unfolding value
   value-hexadecimal d = rw (d, value)
 
-  value-chainwise : notation (e .key) ≡ Chainwise → value chains e ≡ characters chains (sliceIn e)
+  pub value-chainwise : notation (e .key) ≡ Chainwise → value chains e ≡ characters chains (sliceIn e)
   unfolding value
   value-chainwise d = rw (d, value)
 

@@ -39,7 +39,7 @@ module _ (kind : Kind) (p : Place) where
     line-said : Accepted kind p e → Spelt (p .chains) (notation (e .key)) e → saying kind p (name (e .key) ++ value (p .chains) e) ≡ Said e
     line-said a s = saying-said kind p _ e (formed-back (p .chains) e s) ∙ tested-right kind p e (a .order) (a .ranges)
 
-    line-text : (t : List ℕ) → written (p .chains) e ++ t ≡ (name (e .key) ++ value (p .chains) e) ++ (feed ∷ t)
+    pub line-text : (t : List ℕ) → written (p .chains) e ++ t ≡ (name (e .key) ++ value (p .chains) e) ++ (feed ∷ t)
     unfolding written
     line-text t = simp append-assoc
 

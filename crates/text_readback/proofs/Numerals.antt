@@ -26,19 +26,19 @@ use Rattle.text_numbers.proofs.Numerals.{no-zero-leads, number-digits}
 use Rattle.text_write_numbers.specs.Numerals.{glyph, lastDigits, numeral}
 use Rattle.text_write_numbers.proofs.Digits.{digit-room, digit-less}
 
-glyph-low : (d : ℕ) → d < 10 → glyph d ≡ d + 48
+pub glyph-low : (d : ℕ) → d < 10 → glyph d ≡ d + 48
 unfolding glyph
 glyph-low d h = rw (lt-ltb d 10 h, glyph)
 
-glyph-high : (d : ℕ) → 10 ≤ d → glyph d ≡ d + 87
+pub glyph-high : (d : ℕ) → 10 ≤ d → glyph d ≡ d + 87
 unfolding glyph
 glyph-high d h = rw (le-ltb d 10 h, glyph)
 
-worth-low : (b : ℕ) → 48 ≤ b → b ≤ 57 → worth b ≡ b - 48
+pub worth-low : (b : ℕ) → 48 ≤ b → b ≤ 57 → worth b ≡ b - 48
 unfolding worth
 worth-low b h g = rw (within-holds 48 57 b h g, worth)
 
-worth-high : (b : ℕ) → 97 ≤ b → b ≤ 102 → worth b ≡ b - 87
+pub worth-high : (b : ℕ) → 97 ≤ b → b ≤ 102 → worth b ≡ b - 87
 unfolding worth
 worth-high b h g = rw (above-within 48 57 b (omega arith), worth, within-holds 97 102 b h g, worth)
 
@@ -53,11 +53,11 @@ pub glyph-above : (d : ℕ) → d + 48 ≤ glyph d
 glyph-above d = ⊎-elim (λ l. omega (arith, glyph-low d l)) (λ g. omega (arith, glyph-high d g)) (lt-or-le d 10)
 
 module _ (d base n : ℕ) where
-  digit-first : n < base → lastDigits (suc d) base n ≡ glyph n ∷ []
+  pub digit-first : n < base → lastDigits (suc d) base n ≡ glyph n ∷ []
   unfolding lastDigits
   digit-first h = rw (lt-ltb n base h, lastDigits)
 
-  digits-more : base ≤ n → lastDigits (suc d) base n ≡ lastDigits d base (n / base) ++ (glyph (n % base) ∷ [])
+  pub digits-more : base ≤ n → lastDigits (suc d) base n ≡ lastDigits d base (n / base) ++ (glyph (n % base) ∷ [])
   unfolding lastDigits
   digits-more h = rw (le-ltb n base h, lastDigits)
 

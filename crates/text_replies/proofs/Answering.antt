@@ -22,6 +22,6 @@ module _ (bs : List ℕ) (n : ℕ) (out : List ℕ) where
   unfolding called
   text-leaves a w after e f g = (e ∙ ap (answered n) f, g)
 
-pub refused-leaves : (r : Refusal) (out : List ℕ) → Leaves (refused r) out (answers.Refused r) out
+pub refused-leaves : (r : Refusal) (out : List ℕ) → Leaves (refused r) out (answers.Refused r 0) out
 unfolding called
 refused-leaves r out = (refl, refl)

@@ -4,10 +4,10 @@ use refusal_causes::Written;
 ghost use mathlib.Core.Path.{_≡_};
 ghost use Rattle.text_replies.specs.Calls.{answered as answeredOf, bytesOf, shown};
 
-// The answer of a text call: how many bytes it wrote and how many seeds or slices they say, or the refusal.
+// The answer of a text call: how many bytes it wrote and how many seeds or slices they say; or the refusal, and for cause 9 how many seeds or slices enough space would have given, else 0.
 pub enum Answer {
     Text(usize, usize),
-    Refused(Refusal),
+    Refused(Refusal, usize),
 }
 
 // The answer to a text with so many seeds or slices.
@@ -16,7 +16,7 @@ pub fn answered(entries: usize, written: Written) -> Answer
 {
     match written {
         Written::Count(bytes) => Answer::Text(bytes, entries),
-        Written::Refused(cause) => Answer::Refused(refusal_causes::refusal_of(cause)),
+        Written::Refused(cause) => Answer::Refused(refusal_causes::refusal_of(cause), entries),
     }
 }
 
@@ -37,6 +37,6 @@ pub fn print(answer: Answer, out: &mut [u8]) -> usize
 {
     match answer {
         Answer::Text(bytes, _) => bytes,
-        Answer::Refused(refusal) => bytes_of(text_write_refusal::write_refusal(out, refusal)),
+        Answer::Refused(refusal, _) => bytes_of(text_write_refusal::write_refusal(out, refusal)),
     }
 }

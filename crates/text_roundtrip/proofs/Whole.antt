@@ -3,6 +3,7 @@
 --     round-trip     read back and expanded, it gives as many slices as the sheet has, each agreeing with the sheet's
 -- Assumes nothing.
 use mathlib.Core.Path.{_≡_, refl, sym, ap, _∙_}
+use mathlib.Core.Option.{some}
 use mathlib.Core.List.{List}
 use Prim.Native.Nat.{ℕ, _≤_}
 use native.Mathlib.Omega.{arith}
@@ -13,7 +14,9 @@ use Rattle.refusal_causes.specs.Outcome.{Outcome, fill}
 use Rattle.refusal_causes.proofs.Outcome.{fill-whole}
 use Rattle.machine_settings.specs.Machine.{base}
 use Rattle.machine_slices.specs.declared.TestSlice.{TestSlice}
+use Rattle.machine_slices.specs.Slices.{paired}
 use Rattle.machine_slices.proofs.Formed.{slices-length}
+use Rattle.stop_steps.specs.Steps.{stopFor}
 use Rattle.refusal_lengths.proofs.Lengths.{set-within}
 use Rattle.refusal_checks.proofs.Formed.{set-formed}
 use Rattle.text_keys.specs.declared.Key.the-variants as key
@@ -65,6 +68,9 @@ text-is bs list m n e = cc
 count-is : (bs list : List ℕ) (m n : ℕ) → text bs m ≡ text list n → m ≡ n
 count-is bs list m n e = cc
 
+some-is : (a b : TestSlice) → some a ≡ some b → a ≡ b
+some-is a b e = cc
+
 concluded-text : (end : Scanned) (r : Reply) (list : List ℕ) (n : ℕ) → concluded end r ≡ text list n → r ≡ text list n
 unfolding concluded
 concluded-text scanned.Whole r list n e = e
@@ -112,17 +118,23 @@ module _ (s : List ℕ) where
     given-back (encodings.Seeds stop m) q e = rw (← (text-is _ list m n e)) (seeds-give-back stop m q)
     given-back (encodings.Refused c) q e = absurd (refused-text _ list n e)
 
-    list-quoted : (a : Encoded) → o .answer ≡ a → listReply (base cells taps) masks (length ps) (o .buffer) a ≡ text list n → Quoted s list n
-    unfolding listReply
-    list-quoted (encodings.Seeds stop m) q e =
-        let a = cubes-accepted (base cells taps) masks _ ps bs lent stop m q in
-        record { stop = stop; seeds = take m (o .buffer); printed = sym (text-is _ list m n e); count = a .count ∙ count-is _ list m n e; steps = a .steps; shortest = a .shortest }
-    list-quoted (encodings.Refused c) q e = absurd (refused-text _ list n e)
+    module _ (stop : TestSlice) (steps : stopFor (length masks) (paired ps bs) ≡ some stop) where
+      seeds-quoted : (st : TestSlice) (m : ℕ) → o .answer ≡ encodings.Seeds st m → listText (base cells taps) masks st (length ps) (take m (o .buffer)) ≡ list → m ≡ n → Quoted s st list n
+      seeds-quoted st m q t k =
+          let a = cubes-accepted (base cells taps) masks _ ps bs lent st m q in
+          record { seeds = take m (o .buffer); printed = sym t; count = a .count ∙ k; steps = a .steps; shortest = a .shortest }
+
+      list-quoted : (a : Encoded) → o .answer ≡ a → listReply (base cells taps) masks (length ps) (o .buffer) a ≡ text list n → Quoted s stop list n
+      unfolding listReply
+      list-quoted (encodings.Seeds st m) q e =
+          let a = cubes-accepted (base cells taps) masks _ ps bs lent st m q in
+          rw (← (some-is st stop (sym (a .steps) ∙ steps))) (seeds-quoted st m q (text-is _ list m n e) (count-is _ list m n e))
+      list-quoted (encodings.Refused c) q e = absurd (refused-text _ list n e)
+
+      pub quoted : encodeReply s ≡ text list n → Quoted s stop list n
+      unfolding replyTo sheetReply encoded
+      quoted e = list-quoted (o .answer) refl (concluded-text (readingOf kinds.Sheet s .end) _ list n e)
 
     pub round-trip : encodeReply s ≡ text list n → GivesBack s list
     unfolding replyTo sheetReply encoded
     round-trip e = given-back (o .answer) refl (concluded-text (readingOf kinds.Sheet s .end) _ list n e)
-
-    pub quoted : encodeReply s ≡ text list n → Quoted s list n
-    unfolding replyTo sheetReply encoded
-    quoted e = list-quoted (o .answer) refl (concluded-text (readingOf kinds.Sheet s .end) _ list n e)

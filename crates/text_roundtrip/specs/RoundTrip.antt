@@ -1,9 +1,8 @@
 -- From a sheet to its seed list and back to slices (document 01, "Sheet and seed list"; demand 2).
 --     sheetOf s           the entries of the sheet s
 --     setOf s             its test slices
---     Quoted s list n     the list is that of the sheet s with the stop slice of the steps and n seeds, than which no covering list is shorter
+--     Quoted s stop list n     the list is that of the sheet s with this stop slice, which is that of the steps, and n seeds, than which no covering list is shorter
 --     GivesBack s list    expanding the list is accepted with as many slices as the sheet s has, and slice i agrees with slice line i
---     NotShort r          the reply r is no refusal by cause 9
 use mathlib.Core.Path.{_≡_}
 use mathlib.Core.Bool.{true}
 use mathlib.Core.List.{List}
@@ -23,7 +22,7 @@ use Rattle.text_encode.specs.Sheet.{specifiedOf, bitsOf}
 use Rattle.text_order.specs.declared.Kind.the-variants as kinds
 use Rattle.text_write_slices.specs.Slices.{sliceLines}
 use Rattle.text_write_list.specs.SeedList.{listText}
-use Rattle.text_replies.specs.Replies.{Reply, RefusedBy, text}
+use Rattle.text_replies.specs.Replies.{text}
 use Rattle.text_calls.specs.Texts.{expandReply}
 
 abbrev pub sheetOf : List ℕ → List Entry
@@ -32,8 +31,7 @@ sheetOf s = readingOf kinds.Sheet s .entries
 abbrev pub setOf : List ℕ → List TestSlice
 setOf s = paired (specifiedOf (sheetOf s)) (bitsOf (sheetOf s))
 
-pub record Quoted (s list : List ℕ) (n : ℕ) : Type 0 where
-  pub stop : TestSlice
+pub record Quoted (s : List ℕ) (stop : TestSlice) (list : List ℕ) (n : ℕ) : Type 0 where
   pub seeds : List ℕ
   pub printed : list ≡ listText (settingsOf (sheetOf s)) (masksOf (sheetOf s)) stop (length (specifiedOf (sheetOf s))) seeds
   pub count : length seeds ≡ n
@@ -45,6 +43,3 @@ pub record GivesBack (s list : List ℕ) : Type 0 where
   pub expands : expandReply list ≡ text (sliceLines (length (masksOf (sheetOf s))) slices) (length slices)
   pub whole : length slices ≡ length (specifiedOf (sheetOf s))
   pub agree : (i : ℕ) (t : TestSlice) → i < length (specifiedOf (sheetOf s)) → agrees (getD (setOf s) i t) (getD slices i 0) ≡ true
-
-abbrev pub NotShort : Reply → Type 0
-NotShort r = RefusedBy (λ n. n ≡ 9 → ⊥) r

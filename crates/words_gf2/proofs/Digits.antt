@@ -6,6 +6,7 @@
 --     words-equal                two words with the same digits are one
 --     xor-half, xor-low          the rest and the lowest digit of an exclusive or
 --     put-same, put-other, put-below     a word with a bit put into a cell that held 0: that cell, each other cell, and the width
+--     unit-same, unit-other      the digits of a single bit
 --     beyond-no, no-beyond       what "a bit at or above n" says
 --     beyond-quotient            a bit at or above n is what is left of the quotient by 2 ^ n
 --     beyond-wide                a word has no bit at or above a wider width
@@ -103,6 +104,12 @@ module _ (b : ℕ) (bit : b < 2) where
       let r = put-below n (x / 2) p (omega arith) (omega arith) (sym (digit-suc x p) ∙ z) in
       let e = half-put x p in
       omega arith
+
+pub unit-same : (p : ℕ) → digit (2 ^ p) p ≡ 1
+unit-same p = let e : 0 + 1 * 2 ^ p ≡ 2 ^ p = omega arith in rw e at (put-same 1 (omega arith) 0 p (digit-none p))
+
+pub unit-other : (p i : ℕ) → (i ≡ p → ⊥) → digit (2 ^ p) i ≡ 0
+unit-other p i h = let e : 0 + 1 * 2 ^ p ≡ 2 ^ p = omega arith in (rw e at (put-other 1 (omega arith) 0 p i (digit-none p) h)) ∙ digit-none i
 
 differ-lt : (y z : ℕ) → y < 2 → z < 2 → differ y z < 2
 differ-lt zero z hy hz = hz

@@ -13,16 +13,16 @@ use Rattle.expander_total.proofs.total_of.Statement.{statement}
 use Rattle.expander_total.proofs.total_of.Tie as tie
 
 abbrev Inv-loop : tie.InvT-loop
-Inv-loop settings masks stop seeds register total place state₀ t₀ state t = Searched (machine settings masks) stop (settings .limit) state₀ t state
+Inv-loop settings register masks stop seeds total place state₀ t₀ state t = Searched (machine settings masks) stop (settings .limit) state₀ t state
 
 abbrev μ-loop : tie.MeasureT-loop
-μ-loop settings masks stop seeds register total place state₀ t₀ state t = settings .limit - t
+μ-loop settings register masks stop seeds total place state₀ t₀ state t = settings .limit - t
 
 abbrev Inv-seeds : tie.InvT-seeds
-Inv-seeds settings masks stop seeds register total₀ place₀ total place = (place ≤ length seeds) × (total ≤ place * 256) × ((n : ℕ) → Tallied settings masks stop seeds n place total)
+Inv-seeds settings register masks stop seeds total₀ place₀ total place = (place ≤ length seeds) × (total ≤ place * 256) × ((n : ℕ) → Tallied settings masks stop seeds n place total)
 
 abbrev μ-seeds : tie.MeasureT-seeds
-μ-seeds settings masks stop seeds register total₀ place₀ total place = length seeds - place
+μ-seeds settings register masks stop seeds total₀ place₀ total place = length seeds - place
 
 seeds-holds : tie.Need-seeds-holds Inv-loop μ-loop Inv-seeds μ-seeds
 seeds-holds c = (omega arith, omega arith, λ n. tallied-start _ _ _ _ n)
@@ -36,10 +36,10 @@ loop-again c =
     let p = c .before .before .before .before .before .before .before .before .before .before .before .before .before .before in
     let a = p .args in
     let quiet = shown (a .settings) (a .masks .now) (p .pre .0) (l .state) (a .stop) _ _ (c .before .before .before .before .before .slice .ensures) (c .before .before .before .before .shows .ensures) ∙ c .before .before .before .if3 .left in
-    rw (stepped (a .settings) (a .masks .now) (p .pre .0) (l .state) (c .step .result) (c .step .ensures)) at (searched-next _ _ _ _ (l .t) (l .state) (l .inv) quiet (c .before .if4 .left))
+    rw (stepped (a .settings) (a .masks .now) (p .pre .0) (l .state) (a .register) (p .pre .1 .1) (c .step .result) (c .step .ensures)) at (searched-next _ _ _ _ (l .t) (l .state) (l .inv) quiet (c .before .if4 .left))
 
 add-total : tie.Need-add-total Inv-loop μ-loop Inv-seeds μ-seeds
-add-total c = omega (arith, c .before .before .before .before .loop .inv .within, c .before .before .before .before .before .before .before .before .before .seeds .inv .1, c .before .before .before .before .before .before .before .before .before .before .before .before .pre .0 .limit, c .before .before .before .before .before .before .before .before .before .before .before .before .pre .1, c .before .before .before .before .before .before .before .before .if1 .left)
+add-total c = omega (arith, c .before .before .before .before .loop .inv .within, c .before .before .before .before .before .before .before .before .before .seeds .inv .1, c .before .before .before .before .before .before .before .before .before .before .before .before .pre .0 .limit, c .before .before .before .before .before .before .before .before .before .before .before .before .pre .1 .0, c .before .before .before .before .before .before .before .before .if1 .left)
 
 seeds-again : tie.Need-seeds-again Inv-loop μ-loop Inv-seeds μ-seeds
 seeds-again c =

@@ -14,16 +14,19 @@ use Rattle.expander_writing.proofs.write_all.Statement.{statement}
 use Rattle.expander_writing.proofs.write_all.Tie as tie
 
 abbrev Inv-loop : tie.InvT-loop
-Inv-loop settings masks stop seeds out₀ at₀ place₀ out at place = ((n : ℕ) (vs : List ℕ) → walk (machine settings masks) (rules settings stop) n 0 0 seeds ≡ ran vs → length vs ≤ length out₀ → Filled settings masks stop seeds n vs out₀ place at out) × (place ≤ length seeds) × (at ≤ length out₀) × (length out ≡ length out₀)
+Inv-loop settings register masks stop seeds out₀ at₀ place₀ out at place = ((n : ℕ) (vs : List ℕ) → walk (machine settings masks) (rules settings stop) n 0 0 seeds ≡ ran vs → length vs ≤ length out₀ → Filled settings masks stop seeds n vs out₀ place at out) × (place ≤ length seeds) × (at ≤ length out₀) × (length out ≡ length out₀)
 
 abbrev μ-loop : tie.MeasureT-loop
-μ-loop settings masks stop seeds out₀ at₀ place₀ out at place = length seeds - place
+μ-loop settings register masks stop seeds out₀ at₀ place₀ out at place = length seeds - place
 
 loop-holds : tie.Need-loop-holds Inv-loop μ-loop
 loop-holds c = ((λ n vs w h. filled-start _ _ _ _ n vs _ w h), omega arith, omega arith, refl)
 
 write-run-requires : tie.Need-write-run-requires Inv-loop μ-loop
-write-run-requires c κs = (c .before .before .before .before .before .before .before .pre, (let l = c .before .before .before .loop in omega (arith, l .inv .2, l .inv .3)))
+write-run-requires c κs =
+    let p = c .before .before .before .before .before .before .before .pre in
+    let l = c .before .before .before .loop in
+    (p .0, (omega (arith, l .inv .2, l .inv .3), p .1))
 
 loop-again : tie.Need-loop-again Inv-loop μ-loop
 loop-again c =

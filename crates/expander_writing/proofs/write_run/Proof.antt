@@ -5,19 +5,19 @@ use native.Mathlib.Omega.{arith}
 use lib.ListN.{length}
 use borrow.Author.Needs.{needs}
 use Rattle.expander_meaning.proofs.Running.{sliced, shown, stepped}
-use Rattle.machine_settings.specs.Machine.{machineWith}
+use Rattle.machine_settings.specs.Machine.{machine}
 use Rattle.expander_writing.proofs.Writing.{Writes, writes-start, writes-next, writes-stop, writes-end}
 use Rattle.expander_writing.proofs.write_run.Statement.{statement}
 use Rattle.expander_writing.proofs.write_run.Tie as tie
 
 abbrev Inv-loop : tie.InvT-loop
-Inv-loop masks stop seed at out₀ register state₀ i₀ out state i = Writes (machineWith (register .cells) (register .taps) masks 0) stop seed at out₀ i state out
+Inv-loop settings register masks stop seed at out₀ state₀ i₀ out state i = Writes (machine settings masks) stop seed at out₀ i state out
 
 abbrev μ-loop : tie.MeasureT-loop
-μ-loop masks stop seed at out₀ register state₀ i₀ out state i = length out₀ - i
+μ-loop settings register masks stop seed at out₀ state₀ i₀ out state i = length out₀ - i
 
 loop-holds : tie.Need-loop-holds Inv-loop μ-loop
-loop-holds c = writes-start _ _ _ _ _ (c .before .before .pre .1)
+loop-holds c = writes-start _ _ _ _ _ (c .before .before .pre .1 .0)
 
 slice-write-out : tie.Need-slice-write-out Inv-loop μ-loop
 slice-write-out c = omega (arith, c .before .before .before .before .loop .inv .size)
@@ -34,7 +34,7 @@ loop-again c =
     let p = c .before .before .before .before .before .before .before .before in
     let a = p .args in
     let quiet = shown (a .settings) (a .masks .now) (p .pre .0) (l .state) (a .stop) _ _ (c .before .before .before .slice .ensures) (c .before .before .shows .ensures) ∙ c .before .if1 .left in
-    rw (stepped (a .settings) (a .masks .now) (p .pre .0) (l .state) (c .step .result) (c .step .ensures), sliced (a .settings) (a .masks .now) (p .pre .0) (l .state) (c .before .before .before .slice .result) (c .before .before .before .slice .ensures))
+    rw (stepped (a .settings) (a .masks .now) (p .pre .0) (l .state) (a .register) (p .pre .1 .1) (c .step .result) (c .step .ensures), sliced (a .settings) (a .masks .now) (p .pre .0) (l .state) (c .before .before .before .slice .result) (c .before .before .before .slice .ensures))
     at (writes-next _ _ _ _ _ (l .i) (l .state) (l .out) (l .inv) (omega (arith, l .inv .size)) quiet)
 
 same-length : tie.Need-same-length Inv-loop μ-loop

@@ -57,11 +57,11 @@ branch-claims t = (
 )
 
 abbrev branch-Inv-loop : branch-lts.InvT-loop
-branch-Inv-loop pattern table rows lowest free row columns first rest₀ left₀ found₀ position₀ rest left found position =
+branch-Inv-loop pattern table rows lowest free rest₀ row columns first left₀ found₀ position₀ rest left found position =
     (length rest ≡ 64) × Branched pattern table rows lowest (take left₀ rest₀) found₀ row (take left rest) found position
 
 abbrev branch-μ-loop : branch-lts.MeasureT-loop
-branch-μ-loop pattern table rows lowest free row columns first rest₀ left₀ found₀ position₀ rest left found position =
+branch-μ-loop pattern table rows lowest free rest₀ row columns first left₀ found₀ position₀ rest left found position =
     columns - position
 
 branch-reached-requires : (t : ℕ) → branch-lts.Need-reached-requires (branch-claims t) (branch-at t) branch.Post branch-Inv-loop branch-μ-loop
@@ -71,8 +71,8 @@ branch-returns : (t : ℕ) → branch-lts.Need-returns (branch-claims t) (branch
 branch-returns t c =
     let s = c .before .before .before in
     let a = s .args in
-    finds-lowest-clear (a .pattern) (a .table .now) (a .rows) (a .lowest) (take (a .free) (a .t5)) (a .before) (a .before)
-    (finds-pruned (a .pattern) (a .table .now) (a .rows) (a .lowest) (take (a .free) (a .t5)) (a .before) (s .pre .1 .0) (sym (c .before .reached .ensures) ∙ c .if1 .taken))
+    finds-lowest-clear (a .pattern) (a .table .now) (a .rows) (a .lowest) (take (a .free) (a .vectors)) (a .before) (a .before)
+    (finds-pruned (a .pattern) (a .table .now) (a .rows) (a .lowest) (take (a .free) (a .vectors)) (a .before) (s .pre .1 .0) (sym (c .before .reached .ensures) ∙ c .if1 .taken))
 
 branch-is-leaf-requires : (t : ℕ) → branch-lts.Need-is-leaf-requires (branch-claims t) (branch-at t) branch.Post branch-Inv-loop branch-μ-loop
 branch-is-leaf-requires t c κs = search needs
@@ -84,7 +84,7 @@ branch-leaf-requires : (t : ℕ) → branch-lts.Need-leaf-requires (branch-claim
 branch-leaf-requires t c κs =
     let s = c .before .before .before .before .before .before in
     let z = c .before .before .is-leaf .ensures (c .before .if2 .taken) in
-    let n : length (s .args .t5) ≡ 64 = search needs in
+    let n : length (s .args .vectors) ≡ 64 = search needs in
     ((z, omega (arith, z .few)), (s .pre .1 .0, s .pre .1 .1))
 
 branch-returns-2 : (t : ℕ) → branch-lts.Need-returns-2 (branch-claims t) (branch-at t) branch.Post branch-Inv-loop branch-μ-loop
@@ -97,8 +97,8 @@ branch-returns-3 : (t : ℕ) → branch-lts.Need-returns-3 (branch-claims t) (br
 branch-returns-3 t c =
     let s = c .before .before .before .before .before .before .before in
     let a = s .args in
-    finds-lowest-clear (a .pattern) (a .table .now) (a .rows) (a .lowest) (take (a .free) (a .t5)) (a .before) _
-    (finds-lowest (a .pattern) (a .table .now) (a .rows) (a .lowest) (take (a .free) (a .t5)) (a .before) (s .pre .1 .0) (omega arith)
+    finds-lowest-clear (a .pattern) (a .table .now) (a .rows) (a .lowest) (take (a .free) (a .vectors)) (a .before) _
+    (finds-lowest (a .pattern) (a .table .now) (a .rows) (a .lowest) (take (a .free) (a .vectors)) (a .before) (s .pre .1 .0) (omega arith)
     (sym (c .before .before .before .before .before .reached .ensures) ∙ c .before .before .before .before .if1 .left)
     (first-none (a .pattern) (a .table .now) (a .rows) (a .lowest) (c .before .first-shown .result) (c .before .first-shown .ensures) (c .if3 .taken)))
 
@@ -115,7 +115,7 @@ branch-loop-holds : (t : ℕ) → branch-lts.Need-loop-holds (branch-claims t) (
 branch-loop-holds t c =
     let s = c .before .before .before .before .before .before .before in
     let a = s .args in
-    (search needs, branched-start (a .pattern) (a .table .now) (a .rows) (a .lowest) (take (a .free) (a .t5)) (a .before) (c .before .first-shown .result) (s .pre .1 .0))
+    (search needs, branched-start (a .pattern) (a .table .now) (a .rows) (a .lowest) (take (a .free) (a .vectors)) (a .before) (c .before .first-shown .result) (s .pre .1 .0))
 
 branch-slice-aggregate-take-out : (t : ℕ) → branch-lts.Need-slice-aggregate-take-out (branch-claims t) (branch-at t) branch.Post branch-Inv-loop branch-μ-loop
 branch-slice-aggregate-take-out t c = search needs
@@ -166,8 +166,8 @@ branch-branch-requires t c κs =
     let n : pivot mask (take (l .left) (l .rest)) ≡ 0 → ⊥ = λ z. c .before .if4 .taken (e ∙ z) in
     let w = taken-left mask (take (l .left) (l .rest)) (o .last .0) _ (o .result) (o .ensures .0) (o .ensures .1) in
     let lt = c .before .before .before .before .before .before .before .loop-test .taken in (
-      omega (arith, ap length w, s .pre .0, child-shorter (a .pattern) (a .table .now) (a .rows) (a .lowest) (take (a .free) (a .t5)) (a .before) (r .result) (take (l .left) (l .rest)) (l .found) (l .found) (l .position) lt n (l .inv .1)),
-      (rw (w, e) (child-rising (a .pattern) (a .table .now) (a .rows) (a .lowest) (take (a .free) (a .t5)) (a .before) (r .result) (take (l .left) (l .rest)) (l .found) (l .found) (l .position) lt n (l .inv .1)), s .pre .1 .1),
+      omega (arith, ap length w, s .pre .0, child-shorter (a .pattern) (a .table .now) (a .rows) (a .lowest) (take (a .free) (a .vectors)) (a .before) (r .result) (take (l .left) (l .rest)) (l .found) (l .found) (l .position) lt n (l .inv .1)),
+      (rw (w, e) (child-rising (a .pattern) (a .table .now) (a .rows) (a .lowest) (take (a .free) (a .vectors)) (a .before) (r .result) (take (l .left) (l .rest)) (l .found) (l .found) (l .position) lt n (l .inv .1)), s .pre .1 .1),
     )
 
 branch-add-position : (t : ℕ) → branch-lts.Need-add-position (branch-claims t) (branch-at t) branch.Post branch-Inv-loop branch-μ-loop
@@ -191,9 +191,9 @@ branch-loop-again t c =
       o .kept .0 ∙ l .inv .0,
       rw w (⊎-elim
           (λ v.
-          rw (v .3) (branched-child (a .pattern) (a .table .now) (a .rows) (a .lowest) (take (a .free) (a .t5)) (a .before) (r .result) (take (l .left) (l .rest)) (l .found) (v .2 .result) (l .position) lt (λ z. v .0 .taken (e ∙ z)) (l .inv .1)
+          rw (v .3) (branched-child (a .pattern) (a .table .now) (a .rows) (a .lowest) (take (a .free) (a .vectors)) (a .before) (r .result) (take (l .left) (l .rest)) (l .found) (v .2 .result) (l .position) lt (λ z. v .0 .taken (e ∙ z)) (l .inv .1)
           (lowest-clear-finds (a .pattern) (a .table .now) (a .rows) _ _ (l .found) (v .2 .result) (rw (w, e) at (v .2 .ensures)))))
-          (λ v. rw (v .1) (branched-same (a .pattern) (a .table .now) (a .rows) (a .lowest) (take (a .free) (a .t5)) (a .before) (r .result) (take (l .left) (l .rest)) (l .found) (l .position) lt (sym e ∙ v .0 .left) (l .inv .1)))
+          (λ v. rw (v .1) (branched-same (a .pattern) (a .table .now) (a .rows) (a .lowest) (take (a .free) (a .vectors)) (a .before) (r .result) (take (l .left) (l .rest)) (l .found) (l .position) lt (sym e ∙ v .0 .left) (l .inv .1)))
           (c .if4 .came)),
     )
 
@@ -205,8 +205,8 @@ branch-returns-4 t c =
     let a = s .args in
     let t = i .before .first-shown in
     let f = first-some (a .pattern) (a .table .now) (a .rows) (a .lowest) (t .result) (t .ensures) (i .if3 .left) in
-    finds-lowest-clear (a .pattern) (a .table .now) (a .rows) (a .lowest) (take (a .free) (a .t5)) (a .before) (l .found)
-    (branched-end (a .pattern) (a .table .now) (a .rows) (a .lowest) (take (a .free) (a .t5)) (a .before) (t .result) (take (l .left) (l .rest)) (l .found) (l .position) (omega arith) (f .0) (s .pre .1 .1) (f .1) (l .inv .1))
+    finds-lowest-clear (a .pattern) (a .table .now) (a .rows) (a .lowest) (take (a .free) (a .vectors)) (a .before) (l .found)
+    (branched-end (a .pattern) (a .table .now) (a .rows) (a .lowest) (take (a .free) (a .vectors)) (a .before) (t .result) (take (l .left) (l .rest)) (l .found) (l .position) (omega arith) (f .0) (s .pre .1 .1) (f .1) (l .inv .1))
 
 pub +branch-spec : {M : Type 1} → statement M
 +branch-spec = close μ-branch λ t. branch-lts.spec

@@ -1,0 +1,58 @@
+-- The calls that take a state: one step of the register, and its slice (document 01, "Register and chains"; causes 1, 2 and 10 of its refusal sheet).
+--     stateAnswer v s, sliceAnswer v s     number 0 with the state or the slice s, or the number and value of the refusal, and 0
+--     noState c, noSlice c                 those that are refused
+--     registerTest, chainsTest, stateTest     causes 1, 2 and 10; the state is the one seed that is handed in, so its place is 0
+--     stepCall g s                         the state after one step: cause 1, then 10
+--     sliceCall g masks s                  the slice: causes 1 and 2, then 10
+--     stepFound r s, sliceFound g masks s         the same where the register is lawful
+use mathlib.Core.List.{List, [], _∷_}
+use Prim.Native.Nat.{ℕ}
+use Rattle.words_gf2.specs.Words.{beyond}
+use Rattle.refusal_causes.specs.declared.Cause.{Cause}
+use Rattle.refusal_causes.specs.declared.Cause.the-variants as cause
+use Rattle.refusal_causes.specs.Sheet.{refusalOf}
+use Rattle.machine_register.specs.Register.{badRegister, step, stepOf}
+use Rattle.machine_register.specs.declared.Register.{Register}
+use Rattle.machine_chains.specs.Chains.{badChains}
+use Rattle.machine_settings.specs.Machine.{machine}
+use Rattle.machine_settings.specs.declared.Settings.{Settings}
+use Rattle.refusal_order.specs.Order.{Test, firstOf}
+use Rattle.refusal_order.specs.declared.Verdict.{Verdict}
+use Rattle.refusal_order.specs.declared.Verdict.the-variants.{WellFormed, Refused}
+use Rattle.face_numbers.specs.declared.StateAnswer.{StateAnswer}
+use Rattle.face_numbers.specs.declared.SliceAnswer.{SliceAnswer}
+
+abbrev pub noState : Cause → StateAnswer
+noState c = record { number = refusalOf c .number; value = refusalOf c .value; state = 0 }
+
+abbrev pub noSlice : Cause → SliceAnswer
+noSlice c = record { number = refusalOf c .number; value = refusalOf c .value; slice = 0 }
+
+abbrev pub stateAnswer : Verdict → ℕ → StateAnswer
+stateAnswer WellFormed s = record { number = 0; value = 0; state = s }
+stateAnswer (Refused c) s = noState c
+
+abbrev pub sliceAnswer : Verdict → ℕ → SliceAnswer
+sliceAnswer WellFormed s = record { number = 0; value = 0; slice = s }
+sliceAnswer (Refused c) s = noSlice c
+
+abbrev pub registerTest : Settings → Test
+registerTest g = record { holds = badRegister (g .cells) (g .taps); refused = cause.Register }
+
+abbrev pub chainsTest : ℕ → List ℕ → Test
+chainsTest cells masks = record { holds = badChains cells masks; refused = cause.Chains }
+
+abbrev pub stateTest : ℕ → ℕ → Test
+stateTest cells s = record { holds = beyond cells s; refused = cause.SeedBeyond 0 }
+
+unfoldable pub stepCall : Settings → ℕ → StateAnswer
+stepCall g s = stateAnswer (firstOf (registerTest g ∷ stateTest (g .cells) s ∷ [])) (step (g .cells) (g .taps) s)
+
+unfoldable pub sliceCall : Settings → List ℕ → ℕ → SliceAnswer
+sliceCall g masks s = sliceAnswer (firstOf (registerTest g ∷ chainsTest (g .cells) masks ∷ stateTest (g .cells) s ∷ [])) (machine g masks .slice s)
+
+unfoldable pub stepFound : Register → ℕ → StateAnswer
+stepFound r s = stateAnswer (firstOf (stateTest (r .cells) s ∷ [])) (stepOf r s)
+
+unfoldable pub sliceFound : Settings → List ℕ → ℕ → SliceAnswer
+sliceFound g masks s = sliceAnswer (firstOf (chainsTest (g .cells) masks ∷ stateTest (g .cells) s ∷ [])) (machine g masks .slice s)

@@ -1,0 +1,1 @@
+// What the replies to texts mean, as definitions and laws: no code.

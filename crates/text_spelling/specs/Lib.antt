@@ -1,0 +1,2 @@
+-- The lines of a text before a key.
+pub mod Before
