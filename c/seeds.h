@@ -31,7 +31,7 @@ extern "C" {
 #define SEEDS_LONGEST_OUTPUT 145408
 
 /* Bytes of stack that are enough for every call: a thread may be made with just that many. */
-#define SEEDS_STACK 720896
+#define SEEDS_STACK 655360
 
 /* The number of an answer: accepted, or the cause of the refusal. docs/library.md has the whole cause and the value of each. */
 enum seeds_cause {

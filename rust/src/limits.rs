@@ -13,4 +13,4 @@ pub const LONGEST_INPUT: usize = 169_441;
 /// Bytes of the longest text that a call writes: 2,048 slice lines of 64 chains.
 pub const LONGEST_OUTPUT: usize = 145_408;
 /// Bytes of stack that are enough for every call: a thread may be made with just that many.
-pub const STACK: usize = 720_896;
+pub const STACK: usize = 655_360;
