@@ -26,8 +26,8 @@ use Rattle.encoder_meaning.specs.Encoding.{encoding, encodeSet}
 use Rattle.encoder_cubes.specs.Cubes.{withStop, cubesEncoding, encodeCubes}
 use Rattle.encoder_cubes.specs.Meaning.{StoppedMeaning, CubesMeaning}
 use Rattle.encoder_cubes.specs.Formed.{CubesFormed}
-use Rattle.encoder_cubes.specs.declared.Encoded.{Encoded}
-use Rattle.encoder_cubes.specs.declared.Encoded.the-variants.{Refused}
+use Rattle.encoder_meaning.specs.declared.Encoded.{Encoded}
+use Rattle.encoder_meaning.specs.declared.Encoded.the-variants.{Refused}
 use Rattle.encoder_cubes.proofs.Formed.{cubes-formed, cubes-stop, cubes-set}
 use Rattle.encoder_meaning.proofs.Calls.{set-well, set-means}
 use Rattle.refusal_causes.specs.declared.Cause.the-variants as cause

@@ -17,8 +17,8 @@ use Rattle.refusal_checks.specs.Calls.{cubesFaults}
 use Rattle.stop_steps.specs.Steps.{stopFor}
 use Rattle.theory_covering.specs.Rules.{rules}
 use Rattle.encoder_meaning.specs.Encoding.{encoding}
-use Rattle.encoder_cubes.specs.declared.Encoded.{Encoded}
-use Rattle.encoder_cubes.specs.declared.Encoded.the-variants.{Seeds, Refused}
+use Rattle.encoder_meaning.specs.declared.Encoded.{Encoded}
+use Rattle.encoder_meaning.specs.declared.Encoded.the-variants.{Seeds, Refused}
 use Rattle.refusal_causes.specs.declared.Cause.the-variants as cause
 use Rattle.refusal_causes.specs.declared.Written.the-variants as written
 use Rattle.refusal_order.specs.declared.Verdict.the-variants as verdict

@@ -19,7 +19,7 @@ use Rattle.encoder_meaning.specs.Meaning.{SetMeaning}
 use Rattle.encoder_cubes.specs.Cubes.{CubesOutcome, withStop}
 use Rattle.refusal_causes.specs.declared.Cause.the-variants as cause
 use Rattle.refusal_order.specs.declared.Verdict.the-variants as verdict
-use Rattle.encoder_cubes.specs.declared.Encoded.the-variants as encoded
+use Rattle.encoder_meaning.specs.declared.Encoded.the-variants as encoded
 
 -- What the call for cubes makes of a stop slice that the steps give: it is the call with that stop slice handed in, which is then well-formed, and hands it back.
 pub record StoppedMeaning (g : Settings) (masks : List ℕ) (specified bits out : List ℕ) (stop : TestSlice) (o : CubesOutcome) : Type 0 where

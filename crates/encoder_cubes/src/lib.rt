@@ -1,4 +1,5 @@
 // The encoding of cubes (document 01, "Covering and cutting"): the stop slice of the steps, then as for a set.
+use encoder_meaning::Encoded;
 use machine_settings::Settings;
 use machine_slices::TestSlice;
 use refusal_causes::Cause;
@@ -9,12 +10,6 @@ ghost use mathlib.Core.Path.{_≡_};
 ghost use Rattle.encoder_cubes.specs.Cubes.{cubesEncoding, encodeCubes, stopped};
 ghost use Rattle.encoder_cubes.specs.Formed.{CubesFormed};
 ghost use Rattle.encoder_cubes.specs.Meaning.{CubesMeaning};
-
-// The answer of the encoding of cubes: the stop slice of the steps with the number of seeds, or a refusal.
-pub enum Encoded {
-    Seeds(TestSlice, usize),
-    Refused(Cause),
-}
 
 // The answer with the stop slice of the steps.
 fn with_stop(stop: TestSlice, written: Written) -> Encoded

@@ -1,1 +1,9 @@
-// The encoding of a set as a definition, and what its answer means: no code.
+// The encoding of a set as a definition, what its answer means, and the answer of the encoding of cubes.
+use machine_slices::TestSlice;
+use refusal_causes::Cause;
+
+// The answer of the encoding of cubes: the stop slice of the steps with the number of seeds, or a refusal.
+pub enum Encoded {
+    Seeds(TestSlice, usize),
+    Refused(Cause),
+}

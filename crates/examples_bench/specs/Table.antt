@@ -41,8 +41,8 @@ use Rattle.expander_meaning.specs.Run.{slicesOf, firstStop, ending, delivers}
 use Rattle.expander_meaning.specs.Expanding.{after, adding, walk, totalled, expanding, expandList}
 use Rattle.encoder_meaning.specs.Encoding.{seedsOf, planned, encoding, encodeSet}
 use Rattle.encoder_cubes.specs.Cubes.{CubesOutcome, stopped, withStop, cubesEncoding, encodeCubes}
-use Rattle.encoder_cubes.specs.declared.Encoded.{Encoded}
-use Rattle.encoder_cubes.specs.declared.Encoded.the-variants as encoded
+use Rattle.encoder_meaning.specs.declared.Encoded.{Encoded}
+use Rattle.encoder_meaning.specs.declared.Encoded.the-variants as encoded
 use Rattle.text_characters.specs.Characters.{isCharacter, specifiedAt, bitAt, inFront, sliceOf}
 use Rattle.examples_bench.specs.Reading.{slice, specifieds, bitses}
 

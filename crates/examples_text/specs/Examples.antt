@@ -51,8 +51,8 @@ use Rattle.text_encode_said.specs.Encoded.{listReply, encoded}
 use Rattle.text_expand_said.specs.Expanded.{slicesReply, expanded}
 use Rattle.text_encode.specs.Sheet.{sheetReply}
 use Rattle.text_expand.specs.List.{seedListReply}
-use Rattle.text_calls.specs.Texts.{replyTo, printedFor, callOf, encodeText, encodeCall, expandText, expandCall}
-use Rattle.text_replies.specs.Replies.{concluded, printed}
+use Rattle.text_calls.specs.Texts.{concluded, replyTo, printedFor, callOf, encodeText, encodeCall, expandText, expandCall}
+use Rattle.text_replies.specs.Replies.{printed}
 use Rattle.text_replies.specs.Calls.{TextOutcome, answered, called}
 use Rattle.text_replies.specs.declared.Answer.{Answer}
 use Rattle.text_replies.specs.declared.Answer.the-variants.{Text, Refused}

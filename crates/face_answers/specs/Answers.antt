@@ -6,11 +6,11 @@
 use Rattle.refusal_causes.specs.Sheet.{refusalOf}
 use Rattle.refusal_causes.specs.declared.Written.{Written}
 use Rattle.theory_covering.specs.declared.Seed.{Seed}
-use Rattle.encoder_cubes.specs.declared.Encoded.{Encoded}
+use Rattle.encoder_meaning.specs.declared.Encoded.{Encoded}
 use Rattle.text_replies.specs.declared.Answer as textAnswer
 use Rattle.refusal_causes.specs.declared.Written.the-variants as written
 use Rattle.theory_covering.specs.declared.Seed.the-variants as seed
-use Rattle.encoder_cubes.specs.declared.Encoded.the-variants as encoded
+use Rattle.encoder_meaning.specs.declared.Encoded.the-variants as encoded
 use Rattle.text_replies.specs.declared.Answer.the-variants as texts
 use Rattle.face_answers.specs.declared.Answer.{Answer}
 use Rattle.face_answers.specs.declared.SeedAnswer.{SeedAnswer}

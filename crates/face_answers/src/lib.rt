@@ -1,5 +1,5 @@
 // The answers of the entries for C and Rust: structs of numbers, made from what the crates below answer.
-use encoder_cubes::Encoded;
+use encoder_meaning::Encoded;
 use refusal_causes::Written;
 use theory_covering::Seed;
 ghost use mathlib.Core.Path.{_≡_};

@@ -22,8 +22,8 @@ use Rattle.stop_slice.specs.declared.Formed.{Formed}
 use Rattle.stop_slice.specs.declared.Formed.the-variants as formed
 use Rattle.theory_covering.specs.declared.Seed.{Seed}
 use Rattle.theory_covering.specs.declared.Seed.the-variants as seed
-use Rattle.encoder_cubes.specs.declared.Encoded.{Encoded}
-use Rattle.encoder_cubes.specs.declared.Encoded.the-variants as encoded
+use Rattle.encoder_meaning.specs.declared.Encoded.{Encoded}
+use Rattle.encoder_meaning.specs.declared.Encoded.the-variants as encoded
 use Rattle.text_replies.specs.Replies.{Reply, RefusedBy, text, refused}
 use Rattle.text_replies.specs.Calls.{answered, called}
 use Rattle.text_order.specs.declared.Kind.{Kind}

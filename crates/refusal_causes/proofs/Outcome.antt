@@ -4,15 +4,16 @@
 --     Full xs out o      the entries stand in the buffer
 --     Short xs out o     the buffer is too short, and as it was
 --     fill-cases         one of the two
+--     fill-long          a buffer that is filled is as long as it was
 -- Assumes nothing.
-use mathlib.Core.Path.{_≡_, refl, sym, ap}
-use mathlib.Core.Logic.{_⊎_, inl, inr}
+use mathlib.Core.Path.{_≡_, refl, sym, ap, _∙_}
+use mathlib.Core.Logic.{_⊎_, inl, inr, ⊎-elim}
 use mathlib.Core.Bool.{Bool, true, false}
 use mathlib.Core.List.{List, _++_}
 use Prim.Native.Nat.{ℕ, _≤_, _<_}
 use native.Mathlib.Omega.{arith}
 use lib.Dec.{leb}
-use lib.ListN.{length, drop}
+use lib.ListN.{length, drop, length-append, length-drop}
 use borrow.Author.Tests.{leb-true, leb-false, le-leb, lt-leb}
 use Rattle.refusal_causes.specs.Outcome.{Outcome, refuse, fill}
 use Rattle.refusal_causes.specs.declared.Cause.{Cause}
@@ -58,3 +59,9 @@ fill-cases xs out = go (leb (length xs) (length out)) refl
     go : (b : Bool) → leb (length xs) (length out) ≡ b → Full xs out (by b) ⊎ Short xs out (by b)
     go true e = inl (record { room = leb-true (length xs) (length out) e; answer = refl; buffer = refl })
     go false e = inr (record { room = leb-false (length xs) (length out) e; answer = refl; buffer = refl })
+
+pub fill-long : (xs out : List ℕ) → length (fill xs out .buffer) ≡ length out
+fill-long xs out = ⊎-elim whole (λ f. ap length (f .buffer)) (fill-cases xs out)
+  where
+    whole : Full xs out (fill xs out) → length (fill xs out .buffer) ≡ length out
+    whole f = ap length (f .buffer) ∙ omega (arith, f .room, length-append xs (drop (length xs) out), length-drop (length xs) out)

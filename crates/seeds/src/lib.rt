@@ -1,4 +1,4 @@
-// The library's face for C and Rust: entries without `requires`, each with its whole contract, passed on to the crate of its kind: `face_numbers`, `face_checks`, `face_words` or `face_texts`.
+// The library's face for C and Rust: entries without `requires`, each with its whole contract, passed on to the crate of its kind: `face_numbers`, `face_checks`, `face_expand`, `face_window`, `face_encode` or `face_texts`.
 use face_answers::Answer;
 use face_answers::CubesAnswer;
 use face_answers::SeedAnswer;
@@ -132,7 +132,7 @@ pub extern "C" fn seeds_expand(
     ensures answer { λ r. ⌜ r ≡ answerOf (expandList (settingsOf settings) (now (masks .entry)) (testSliceOf «stop_specified» «stop_bits») slices (now (seeds .entry)) (now (out .entry)) .answer) ⌝ }
     ensures buffer { λ _. ⌜ now (out .exit) ≡ expandList (settingsOf settings) (now (masks .entry)) (testSliceOf «stop_specified» «stop_bits») slices (now (seeds .entry)) (now (out .entry)) .buffer ⌝ }
 {
-    face_words::expand(
+    face_expand::expand(
         settings,
         masks,
         stop_specified,
@@ -156,7 +156,7 @@ pub extern "C" fn seeds_window(
     ensures answer { λ r. ⌜ r ≡ seedAnswerOf (windowSeed (settingsOf settings) (now (masks .entry)) (testSliceOf «stop_specified» «stop_bits») (now (specified .entry)) (now (bits .entry))) ⌝ }
     ensures meaning { λ _. ⌜ WindowMeaning (settingsOf settings) (now (masks .entry)) (testSliceOf «stop_specified» «stop_bits») (now (specified .entry)) (now (bits .entry)) (windowSeed (settingsOf settings) (now (masks .entry)) (testSliceOf «stop_specified» «stop_bits») (now (specified .entry)) (now (bits .entry))) ⌝ }
 {
-    face_words::window_seed(settings, masks, stop_specified, stop_bits, specified, bits)
+    face_window::window_seed(settings, masks, stop_specified, stop_bits, specified, bits)
 }
 
 // The seeds of a set with its stop slice, written into the buffer: causes 1 to 5, then 8, then 9.
@@ -174,7 +174,7 @@ pub extern "C" fn seeds_encode_set(
     ensures buffer { λ _. ⌜ now (out .exit) ≡ encodeSet (settingsOf settings) (now (masks .entry)) (testSliceOf «stop_specified» «stop_bits») (now (specified .entry)) (now (bits .entry)) (now (out .entry)) .buffer ⌝ }
     ensures meaning { λ _. ⌜ SetMeaning (settingsOf settings) (now (masks .entry)) (testSliceOf «stop_specified» «stop_bits») (now (specified .entry)) (now (bits .entry)) (now (out .entry)) (encodeSet (settingsOf settings) (now (masks .entry)) (testSliceOf «stop_specified» «stop_bits») (now (specified .entry)) (now (bits .entry)) (now (out .entry))) ⌝ }
 {
-    face_words::encode_set(
+    face_encode::encode_set(
         settings,
         masks,
         stop_specified,
@@ -199,7 +199,7 @@ pub extern "C" fn seeds_encode_cubes(
     ensures buffer { λ _. ⌜ now (out .exit) ≡ encodeCubes (settingsOf settings) (now (masks .entry)) depth (now (specified .entry)) (now (bits .entry)) (now (out .entry)) .buffer ⌝ }
     ensures meaning { λ _. ⌜ CubesMeaning (settingsOf settings) (now (masks .entry)) depth (now (specified .entry)) (now (bits .entry)) (now (out .entry)) (encodeCubes (settingsOf settings) (now (masks .entry)) depth (now (specified .entry)) (now (bits .entry)) (now (out .entry))) ⌝ }
 {
-    face_words::encode_cubes(settings, masks, depth, specified, bits, out)
+    face_encode::encode_cubes(settings, masks, depth, specified, bits, out)
 }
 
 // The seed list of a sheet, written into the buffer as text: the first refused line, then the checks over the whole, then 9 with the bytes needed and the number of seeds.

@@ -25,11 +25,10 @@ use Rattle.text_ending.specs.declared.Scanned.the-variants.{Whole, Refused}
 use Rattle.text_reading.specs.Reading.{readingOf}
 use Rattle.text_bounds.proofs.Counting.{lines-few, numbers-few}
 use Rattle.text_bounds.proofs.Values.{lines-value}
-use Rattle.text_replies.specs.Replies.{concluded}
 use Rattle.text_replies.specs.declared.Answer.{Answer}
 use Rattle.text_replies.specs.declared.Answer.the-variants as answers
 use Rattle.text_replies.proofs.Answering.{Leaves, refused-leaves}
-use Rattle.text_calls.specs.Texts.{replyOf, replyTo, callOf}
+use Rattle.text_calls.specs.Texts.{replyOf, concluded, replyTo, callOf}
 
 -- How many numbers the list has.
 abbrev mostNumbers : ℕ

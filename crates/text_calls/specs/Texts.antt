@@ -1,5 +1,6 @@
 -- The programs and the calls on texts, from bytes to bytes (document 01, "Sheet and seed list" and its refusal sheet).
 --     replyOf kind es        the reply to the entries of a text
+--     concluded end reply    the refusal of a reading, or the reply to its entries
 --     replyTo kind s         the reply to the bytes s
 --     printedFor kind s      what the program prints
 --     callOf kind s out      the call, which writes into a lent buffer of bytes
@@ -10,8 +11,10 @@ use Prim.Native.Nat.{ℕ}
 use Rattle.text_lines.specs.declared.Entry.{Entry}
 use Rattle.text_order.specs.declared.Kind.{Kind}
 use Rattle.text_order.specs.declared.Kind.the-variants.{Sheet, SeedList}
+use Rattle.text_ending.specs.declared.Scanned.{Scanned}
+use Rattle.text_ending.specs.declared.Scanned.the-variants as scanned
 use Rattle.text_reading.specs.Reading.{readingOf}
-use Rattle.text_replies.specs.Replies.{Reply, concluded, printed}
+use Rattle.text_replies.specs.Replies.{Reply, refused, printed}
 use Rattle.text_replies.specs.Calls.{TextOutcome, called}
 use Rattle.text_encode.specs.Sheet.{sheetReply}
 use Rattle.text_expand.specs.List.{seedListReply}
@@ -19,6 +22,11 @@ use Rattle.text_expand.specs.List.{seedListReply}
 abbrev pub replyOf : Kind → List Entry → Reply
 replyOf Sheet es = sheetReply es
 replyOf SeedList es = seedListReply es
+
+-- Checks over the whole follow those of the lines.
+unfoldable pub concluded : Scanned → Reply → Reply
+concluded scanned.Whole reply = reply
+concluded (scanned.Refused r) reply = refused r
 
 unfoldable pub replyTo : Kind → List ℕ → Reply
 replyTo kind s = concluded (readingOf kind s .end) (replyOf kind (readingOf kind s .entries))

@@ -10,7 +10,7 @@ use Rattle.refusal_causes.specs.declared.Written.{Written}
 use Rattle.refusal_causes.specs.Outcome.{fill}
 use Rattle.machine_settings.specs.declared.Settings.{Settings}
 use Rattle.machine_slices.specs.declared.TestSlice.{TestSlice}
-use Rattle.encoder_cubes.specs.declared.Encoded.the-variants as encoding
+use Rattle.encoder_meaning.specs.declared.Encoded.the-variants as encoding
 use Rattle.text_write_list.specs.SeedList.{listText}
 use Rattle.text_encode_said.specs.Encoded.{listReply}
 use Rattle.text_replies.specs.Calls.{answered}

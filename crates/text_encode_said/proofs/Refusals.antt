@@ -7,8 +7,8 @@ use Prim.Native.Nat.{ℕ}
 use Rattle.refusal_causes.specs.declared.Cause.{Cause}
 use Rattle.refusal_causes.specs.Sheet.{refusalOf}
 use Rattle.machine_settings.specs.declared.Settings.{Settings}
-use Rattle.encoder_cubes.specs.declared.Encoded.{Encoded}
-use Rattle.encoder_cubes.specs.declared.Encoded.the-variants as encoding
+use Rattle.encoder_meaning.specs.declared.Encoded.{Encoded}
+use Rattle.encoder_meaning.specs.declared.Encoded.the-variants as encoding
 use Rattle.text_replies.specs.Replies.{RefusedBy}
 use Rattle.text_encode_said.specs.Encoded.{listReply}
 

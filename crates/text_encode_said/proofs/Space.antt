@@ -10,6 +10,7 @@ use native.Mathlib.Omega.{arith}
 use lib.ListN.{length, take, length-take}
 use Rattle.refusal_causes.specs.declared.Cause.the-variants.{SlicesIn}
 use Rattle.refusal_causes.specs.Outcome.{refuse}
+use Rattle.refusal_causes.proofs.Outcome.{fill-long}
 use Rattle.machine_settings.specs.declared.Settings.{Settings}
 use Rattle.machine_settings.specs.Machine.{Machine, machine}
 use Rattle.machine_slices.specs.declared.TestSlice.{TestSlice}
@@ -23,12 +24,13 @@ use Rattle.stop_steps.specs.Steps.{stopFor}
 use Rattle.theory_covering.specs.Rules.{Rules, rules}
 use Rattle.encoder_cubes.specs.Cubes.{CubesOutcome, withStop, cubesEncoding, encodeCubes}
 use Rattle.encoder_meaning.specs.Encoding.{planned, encoding}
-use Rattle.encoder_cubes.specs.declared.Encoded.{Encoded}
-use Rattle.encoder_cubes.specs.declared.Encoded.the-variants as encodings
+use Rattle.encoder_meaning.specs.declared.Encoded.{Encoded}
+use Rattle.encoder_meaning.specs.declared.Encoded.the-variants as encodings
 use Rattle.text_write_list.proofs.Lengths.{list-length}
 use Rattle.text_encode_said.specs.Encoded.{listReply}
+use Rattle.text_bounds.specs.Bounds.{mostText}
 use Rattle.text_bounds.proofs.Values.{text-value}
-use Rattle.text_replies.proofs.Space.{fill-long, Within}
+use Rattle.text_replies.proofs.Space.{Within}
 
 plan-long : (M : Machine) (R : Rules) (set : List TestSlice) (out : List ℕ) (p : Plan) → length (planned M R set out p .buffer) ≡ length out
 unfolding planned refuse
@@ -51,7 +53,7 @@ encode-long g masks depth specified bits out = go (judged (cubesFaults g masks d
     go (verdict.Refused c) = refl
     go verdict.WellFormed = stopped-long g masks specified bits out (stopFor (length masks) (paired specified bits))
 
-pub list-within : (g : Settings) (masks : List ℕ) (slices : ℕ) (buffer : List ℕ) (a : Encoded) → length masks ≤ 64 → length buffer ≡ 2048 → Within (listReply g masks slices buffer a)
+pub list-within : (g : Settings) (masks : List ℕ) (slices : ℕ) (buffer : List ℕ) (a : Encoded) → length masks ≤ 64 → length buffer ≡ 2048 → Within mostText (listReply g masks slices buffer a)
 unfolding listReply
 list-within g masks slices buffer (encodings.Seeds stop n) h e =
     let few : length (take n buffer) ≤ 2048 = omega (arith, length-take n buffer) in

@@ -7,8 +7,8 @@ use lib.ListN.{length, take}
 use Rattle.refusal_causes.specs.Sheet.{refusalOf}
 use Rattle.machine_settings.specs.declared.Settings.{Settings}
 use Rattle.encoder_cubes.specs.Cubes.{CubesOutcome, encodeCubes}
-use Rattle.encoder_cubes.specs.declared.Encoded.{Encoded}
-use Rattle.encoder_cubes.specs.declared.Encoded.the-variants as encoding
+use Rattle.encoder_meaning.specs.declared.Encoded.{Encoded}
+use Rattle.encoder_meaning.specs.declared.Encoded.the-variants as encoding
 use Rattle.text_write_list.specs.SeedList.{listText}
 use Rattle.text_replies.specs.Replies.{Reply, text, refused, lent}
 

@@ -1,5 +1,5 @@
 // From what a sheet says to the bytes of its seed list (document 01, "Sheet and seed list").
-use encoder_cubes::Encoded;
+use encoder_meaning::Encoded;
 use machine_settings::Settings;
 use text_replies::Answer;
 ghost use mathlib.Core.Path.{_≡_};

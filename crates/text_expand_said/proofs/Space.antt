@@ -13,6 +13,7 @@ use Rattle.refusal_causes.specs.declared.Cause.the-variants.{Total}
 use Rattle.refusal_causes.specs.declared.Written.{Written}
 use Rattle.refusal_causes.specs.declared.Written.the-variants as written
 use Rattle.refusal_causes.specs.Outcome.{Outcome, refuse, fill}
+use Rattle.refusal_causes.proofs.Outcome.{fill-long}
 use Rattle.machine_settings.specs.declared.Settings.{Settings}
 use Rattle.machine_settings.specs.Machine.{machine}
 use Rattle.machine_slices.specs.declared.TestSlice.{TestSlice}
@@ -24,8 +25,9 @@ use Rattle.theory_covering.specs.Rules.{rules}
 use Rattle.expander_meaning.specs.Expanding.{Walk, ran, failed, totalled, expanding, expandList}
 use Rattle.text_write_slices.proofs.Slices.{slices-bound}
 use Rattle.text_expand_said.specs.Expanded.{slicesReply}
+use Rattle.text_bounds.specs.Bounds.{mostText}
 use Rattle.text_bounds.proofs.Values.{text-value}
-use Rattle.text_replies.proofs.Space.{fill-long, Within}
+use Rattle.text_replies.proofs.Space.{Within}
 
 walk-long : (n : ℕ) (out : List ℕ) (w : Walk) → length (totalled n out w .buffer) ≡ length out
 unfolding totalled refuse
@@ -44,7 +46,7 @@ expand-long g masks stop n seeds out = go (judged (listFaults g masks stop n (le
     go (verdict.Refused c) = refl
     go verdict.WellFormed = walk-long n out _
 
-pub slices-within : (chains : ℕ) (buffer : List ℕ) (a : Written) → chains ≤ 64 → length buffer ≡ 2048 → Within (slicesReply chains buffer a)
+pub slices-within : (chains : ℕ) (buffer : List ℕ) (a : Written) → chains ≤ 64 → length buffer ≡ 2048 → Within mostText (slicesReply chains buffer a)
 unfolding slicesReply
 slices-within chains buffer (written.Count n) h e = omega (arith, slices-bound chains (take n buffer) h (omega (arith, length-take n buffer)), text-value)
 slices-within chains buffer (written.Refused c) h e = tt

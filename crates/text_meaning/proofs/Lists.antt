@@ -28,8 +28,8 @@ use Rattle.text_reading.specs.Reading.{readingOf}
 use Rattle.text_expand_said.specs.Expanded.{slicesReply, expanded}
 use Rattle.text_expand.specs.List.{seedsOf, seedListReply}
 use Rattle.text_write_slices.specs.Slices.{sliceLines}
-use Rattle.text_replies.specs.Replies.{text, refused, lent, concluded}
-use Rattle.text_calls.specs.Texts.{replyTo, expandReply}
+use Rattle.text_replies.specs.Replies.{text, refused, lent}
+use Rattle.text_calls.specs.Texts.{concluded, replyTo, expandReply}
 use Rattle.text_meaning.specs.Sheets.{ReadThrough}
 use Rattle.text_meaning.specs.Lists.{listOf, slicesIn, listFaultsOf, ranOf, ListMeaning}
 use Rattle.text_meaning.proofs.Stops.{stops-at}

@@ -32,8 +32,8 @@ use Rattle.encoder_meaning.specs.Meaning.{Listed, Meaning}
 use Rattle.encoder_meaning.proofs.Seeds.{covering-cuts}
 use Rattle.encoder_cubes.specs.Cubes.{CubesOutcome, stopped, withStop, encodeCubes}
 use Rattle.encoder_cubes.specs.Meaning.{StoppedMeaning}
-use Rattle.encoder_cubes.specs.declared.Encoded.{Encoded}
-use Rattle.encoder_cubes.specs.declared.Encoded.the-variants as encodings
+use Rattle.encoder_meaning.specs.declared.Encoded.{Encoded}
+use Rattle.encoder_meaning.specs.declared.Encoded.the-variants as encodings
 use Rattle.encoder_cubes.proofs.Cubes.{cubes-means}
 use Rattle.text_keys.specs.Bytes.{feed}
 use Rattle.text_keys.specs.Keys.{name}
@@ -44,8 +44,8 @@ use Rattle.text_entries.specs.Said.{masksOf, numberFor, settingsOf}
 use Rattle.text_reading.specs.Reading.{readingOf}
 use Rattle.text_encode_said.specs.Encoded.{listReply, encoded}
 use Rattle.text_encode.specs.Sheet.{specifiedOf, bitsOf, sheetReply}
-use Rattle.text_replies.specs.Replies.{Reply, text, refused, lent, concluded}
-use Rattle.text_calls.specs.Texts.{replyTo, encodeReply}
+use Rattle.text_replies.specs.Replies.{Reply, text, refused, lent}
+use Rattle.text_calls.specs.Texts.{concluded, replyTo, encodeReply}
 use Rattle.text_write_characters.specs.Characters.{characters, sliceLine}
 use Rattle.text_write_numbers.specs.Lines.{numberLine, numberLines}
 use Rattle.text_write_list.specs.SeedList.{headText, listText}

@@ -1,4 +1,3 @@
 -- The laws of the text calls.
 pub mod Answering
 pub mod Space
-pub mod Refusals

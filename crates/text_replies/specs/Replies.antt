@@ -2,15 +2,12 @@
 --     Reply                    the bytes of a text with the number of its seeds or slices, or a refusal
 --     RefusedBy P r            the reply r is a text, or a refusal whose number has P
 --     lent                     a buffer with an entry for each of the most seeds or slices
---     concluded end reply      the refusal of a reading, or the reply to its entries
 --     printed r                what a program prints
 use mathlib.Core.List.{List}
 use Prim.Native.Nat.{ℕ}
 use lib.ListN.{replicate}
 use Rattle.refusal_causes.specs.declared.Refusal.{Refusal}
 use Rattle.refusal_lengths.specs.Lengths.{mostSlices}
-use Rattle.text_ending.specs.declared.Scanned.{Scanned}
-use Rattle.text_ending.specs.declared.Scanned.the-variants as scanned
 use Rattle.text_write_refusal.specs.Refused.{refusedText}
 
 pub data Reply : Type 0 where
@@ -24,11 +21,6 @@ RefusedBy P (refused r) = P (r .number)
 -- There is always space: a set has no more seeds than slices, and an accepted list as many slices as it says (proved in roundtrip, Space).
 abbrev pub lent : List ℕ
 lent = replicate mostSlices 0
-
--- Checks over the whole follow those of the lines.
-unfoldable pub concluded : Scanned → Reply → Reply
-concluded scanned.Whole reply = reply
-concluded (scanned.Refused r) reply = refused r
 
 -- A refused program prints its refusal, and nothing else.
 unfoldable pub printed : Reply → List ℕ

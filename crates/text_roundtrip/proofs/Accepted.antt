@@ -37,7 +37,7 @@ use Rattle.expander_meaning.specs.Expanding.{expandList}
 use Rattle.encoder_cubes.specs.Cubes.{CubesOutcome, stopped, withStop, encodeCubes}
 use Rattle.encoder_meaning.specs.Meaning.{Delivers, Shortest, SetMeaning}
 use Rattle.encoder_cubes.specs.Meaning.{StoppedMeaning}
-use Rattle.encoder_cubes.specs.declared.Encoded.the-variants as encoded
+use Rattle.encoder_meaning.specs.declared.Encoded.the-variants as encoded
 use Rattle.encoder_cubes.proofs.Cubes.{cubes-means}
 
 -- Refused is no list.

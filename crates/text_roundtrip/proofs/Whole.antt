@@ -21,8 +21,8 @@ use Rattle.refusal_lengths.proofs.Lengths.{set-within}
 use Rattle.refusal_checks.proofs.Formed.{set-formed}
 use Rattle.text_keys.specs.declared.Key.the-variants as key
 use Rattle.encoder_cubes.specs.Cubes.{CubesOutcome, encodeCubes}
-use Rattle.encoder_cubes.specs.declared.Encoded.{Encoded}
-use Rattle.encoder_cubes.specs.declared.Encoded.the-variants as encodings
+use Rattle.encoder_meaning.specs.declared.Encoded.{Encoded}
+use Rattle.encoder_meaning.specs.declared.Encoded.the-variants as encodings
 use Rattle.text_reading.specs.Reading.{readingOf}
 use Rattle.text_entries.specs.Said.{masksOf, numberFor}
 use Rattle.text_order.specs.declared.Kind.the-variants as kinds
@@ -33,12 +33,12 @@ use Rattle.text_write_list.specs.SeedList.{listText}
 use Rattle.text_readback.specs.Written.{Printable}
 use Rattle.text_readback.proofs.Whole.{read-back}
 use Rattle.text_readback.proofs.Said.{masks-back, seeds-back, cells-back, taps-back, slices-back, stop-back}
-use Rattle.text_replies.specs.Replies.{Reply, text, refused, lent, concluded}
+use Rattle.text_replies.specs.Replies.{Reply, text, refused, lent}
 use Rattle.text_encode_said.specs.Encoded.{listReply, encoded}
 use Rattle.text_expand_said.specs.Expanded.{slicesReply, expanded}
 use Rattle.text_encode.specs.Sheet.{specifiedOf, bitsOf, sheetReply}
 use Rattle.text_expand.specs.List.{seedListReply}
-use Rattle.text_calls.specs.Texts.{replyTo, encodeReply, expandReply}
+use Rattle.text_calls.specs.Texts.{concluded, replyTo, encodeReply, expandReply}
 use Rattle.text_encode_said.proofs.Space.{encode-long}
 use Rattle.text_roundtrip.specs.RoundTrip.{sheetOf, Quoted, GivesBack}
 use Rattle.text_roundtrip.proofs.Accepted.{cubes-accepted}

@@ -3,7 +3,7 @@ use mathlib.Core.Path.{sym, ap, _∙_}
 use lib.ListN.{length}
 use borrow.Author.Needs.{needs}
 use Rattle.encoder_cubes.specs.Cubes.{CubesOutcome, stopped, withStop}
-use Rattle.encoder_cubes.specs.declared.Encoded.the-variants.{Refused}
+use Rattle.encoder_meaning.specs.declared.Encoded.the-variants.{Refused}
 use Rattle.stop_slice.proofs.Calls.{steps-refused, steps-stop}
 use Rattle.encoder_cubes.proofs.Formed.{cubes-stop}
 use Rattle.encoder_cubes.proofs.Cubes.{stop-set, cubes-unstopped, cubes-stopped}

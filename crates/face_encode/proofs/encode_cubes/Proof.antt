@@ -1,11 +1,11 @@
--- `face_words::encode_cubes` meets its contract. Assumes nothing.
+-- `face_encode::encode_cubes` meets its contract. Assumes nothing.
 use mathlib.Core.Path.{ap, _∙_}
 use borrow.Author.Needs.{needs}
 use Rattle.encoder_cubes.proofs.Cubes.{cubes-means}
 use Rattle.face_answers.specs.Answers.{cubesAnswerOf}
 use Rattle.face_values.specs.Values.{settingsOf}
-use Rattle.face_words.proofs.encode_cubes.Statement.{statement}
-use Rattle.face_words.proofs.encode_cubes.Tie as tie
+use Rattle.face_encode.proofs.encode_cubes.Statement.{statement}
+use Rattle.face_encode.proofs.encode_cubes.Tie as tie
 
 returns : tie.Need-returns
 returns c =

@@ -1,11 +1,11 @@
--- `face_words::window_seed` meets its contract. Assumes nothing.
+-- `face_window::window_seed` meets its contract. Assumes nothing.
 use mathlib.Core.Path.{ap, _∙_}
 use borrow.Author.Needs.{needs}
 use Rattle.theory_covering.proofs.Single.{window-means}
 use Rattle.face_answers.specs.Answers.{seedAnswerOf}
 use Rattle.face_values.specs.Values.{settingsOf, testSliceOf}
-use Rattle.face_words.proofs.window_seed.Statement.{statement}
-use Rattle.face_words.proofs.window_seed.Tie as tie
+use Rattle.face_window.proofs.window_seed.Statement.{statement}
+use Rattle.face_window.proofs.window_seed.Tie as tie
 
 returns : tie.Need-returns
 returns c =

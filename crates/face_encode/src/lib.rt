@@ -1,61 +1,15 @@
-// The entries on lists of words: expanding, the seed of a window, the encoding of a set and of cubes.
+// The entries for encoding: the seeds of a set and of cubes.
 use face_answers::Answer;
 use face_answers::CubesAnswer;
-use face_answers::SeedAnswer;
 use face_values::Settings;
 use machine_slices::TestSlice;
 ghost use mathlib.Core.Path.{_≡_};
-ghost use Rattle.expander_meaning.specs.Expanding.{expandList};
-ghost use Rattle.theory_covering.specs.Single.{windowSeed, WindowMeaning};
 ghost use Rattle.encoder_meaning.specs.Encoding.{encodeSet};
 ghost use Rattle.encoder_cubes.specs.Cubes.{encodeCubes};
 ghost use Rattle.encoder_meaning.specs.Meaning.{SetMeaning};
 ghost use Rattle.encoder_cubes.specs.Meaning.{CubesMeaning};
 ghost use Rattle.face_values.specs.Values.{settingsOf, testSliceOf};
-ghost use Rattle.face_answers.specs.Answers.{answerOf, cubesAnswerOf, seedAnswerOf};
-
-// The slices of a seed list, written into the buffer: causes 1, 2, 3, 5, then 10, 11, 12 of the first refused seed, then 14, then 9.
-pub fn expand(
-    settings: Settings,
-    masks: &[u64],
-    stop_specified: u64,
-    stop_bits: u64,
-    slices: usize,
-    seeds: &[u64],
-    out: &mut [u64],
-) -> Answer
-    ensures answer { λ r. ⌜ r ≡ answerOf (expandList (settingsOf settings) (now (masks .entry)) (testSliceOf «stop_specified» «stop_bits») slices (now (seeds .entry)) (now (out .entry)) .answer) ⌝ }
-    ensures buffer { λ _. ⌜ now (out .exit) ≡ expandList (settingsOf settings) (now (masks .entry)) (testSliceOf «stop_specified» «stop_bits») slices (now (seeds .entry)) (now (out .entry)) .buffer ⌝ }
-{
-    let stop = TestSlice {
-        specified: stop_specified,
-        bits: stop_bits,
-    };
-    let given = face_values::settings_of(settings);
-    let written = expander_list::expand_list(given, masks, stop, slices, seeds, out);
-    face_answers::answer_of(written)
-}
-
-// The seed of a window: causes 1 to 5, then 7.
-pub fn window_seed(
-    settings: Settings,
-    masks: &[u64],
-    stop_specified: u64,
-    stop_bits: u64,
-    specified: &[u64],
-    bits: &[u64],
-) -> SeedAnswer
-    ensures answer { λ r. ⌜ r ≡ seedAnswerOf (windowSeed (settingsOf settings) (now (masks .entry)) (testSliceOf «stop_specified» «stop_bits») (now (specified .entry)) (now (bits .entry))) ⌝ }
-    ensures meaning { λ _. ⌜ WindowMeaning (settingsOf settings) (now (masks .entry)) (testSliceOf «stop_specified» «stop_bits») (now (specified .entry)) (now (bits .entry)) (windowSeed (settingsOf settings) (now (masks .entry)) (testSliceOf «stop_specified» «stop_bits») (now (specified .entry)) (now (bits .entry))) ⌝ }
-{
-    let stop = TestSlice {
-        specified: stop_specified,
-        bits: stop_bits,
-    };
-    let given = face_values::settings_of(settings);
-    let seed = window_single::window_seed(given, masks, stop, specified, bits);
-    face_answers::seed_answer_of(seed)
-}
+ghost use Rattle.face_answers.specs.Answers.{answerOf, cubesAnswerOf};
 
 // The seeds of a set with its stop slice, written into the buffer: causes 1 to 5, then 8, then 9.
 pub fn encode_set(

@@ -1,11 +1,11 @@
--- `face_words::encode_set` meets its contract. Assumes nothing.
+-- `face_encode::encode_set` meets its contract. Assumes nothing.
 use mathlib.Core.Path.{ap, _∙_}
 use borrow.Author.Needs.{needs}
 use Rattle.encoder_meaning.proofs.Calls.{set-means}
 use Rattle.face_answers.specs.Answers.{answerOf}
 use Rattle.face_values.specs.Values.{settingsOf, testSliceOf}
-use Rattle.face_words.proofs.encode_set.Statement.{statement}
-use Rattle.face_words.proofs.encode_set.Tie as tie
+use Rattle.face_encode.proofs.encode_set.Statement.{statement}
+use Rattle.face_encode.proofs.encode_set.Tie as tie
 
 returns : tie.Need-returns
 returns c =

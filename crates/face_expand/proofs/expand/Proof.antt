@@ -1,9 +1,9 @@
--- `face_words::expand` meets its contract. Assumes nothing.
+-- `face_expand::expand` meets its contract. Assumes nothing.
 use mathlib.Core.Path.{ap, _∙_}
 use borrow.Author.Needs.{needs}
 use Rattle.face_answers.specs.Answers.{answerOf}
-use Rattle.face_words.proofs.expand.Statement.{statement}
-use Rattle.face_words.proofs.expand.Tie as tie
+use Rattle.face_expand.proofs.expand.Statement.{statement}
+use Rattle.face_expand.proofs.expand.Tie as tie
 
 returns : tie.Need-returns
 returns c =
