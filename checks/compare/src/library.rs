@@ -23,10 +23,15 @@ impl Like<usize> for Answer {
     }
 }
 
+/// The number and value of an answer, and what is told beside them: what was found, or 0 where the call is refused.
+fn beside<T: Copy + Default>(told: Result<T, Refused>) -> (usize, usize, T) {
+    let Answer { number, value } = Answer::like(told.map(|_| 0));
+    (number, value, told.unwrap_or_default())
+}
+
 impl Like<u64> for StateAnswer {
     fn like(told: Result<u64, Refused>) -> StateAnswer {
-        let state = told.unwrap_or(0);
-        let Answer { number, value } = Answer::like(told.map(|_| 0));
+        let (number, value, state) = beside(told);
         StateAnswer {
             number,
             value,
@@ -37,8 +42,7 @@ impl Like<u64> for StateAnswer {
 
 impl Like<u64> for SliceAnswer {
     fn like(told: Result<u64, Refused>) -> SliceAnswer {
-        let slice = told.unwrap_or(0);
-        let Answer { number, value } = Answer::like(told.map(|_| 0));
+        let (number, value, slice) = beside(told);
         SliceAnswer {
             number,
             value,
@@ -49,8 +53,7 @@ impl Like<u64> for SliceAnswer {
 
 impl Like<(u64, u64)> for StopAnswer {
     fn like(told: Result<(u64, u64), Refused>) -> StopAnswer {
-        let (specified, bits) = told.unwrap_or((0, 0));
-        let Answer { number, value } = Answer::like(told.map(|_| 0));
+        let (number, value, (specified, bits)) = beside(told);
         StopAnswer {
             number,
             value,
@@ -62,8 +65,7 @@ impl Like<(u64, u64)> for StopAnswer {
 
 impl Like<u64> for SeedAnswer {
     fn like(told: Result<u64, Refused>) -> SeedAnswer {
-        let seed = told.unwrap_or(0);
-        let Answer { number, value } = Answer::like(told.map(|_| 0));
+        let (number, value, seed) = beside(told);
         SeedAnswer {
             number,
             value,
@@ -74,8 +76,8 @@ impl Like<u64> for SeedAnswer {
 
 impl Like<(u64, u64, usize)> for CubesAnswer {
     fn like(told: Result<(u64, u64, usize), Refused>) -> CubesAnswer {
-        let (specified, bits, _) = told.unwrap_or((0, 0, 0));
-        let Answer { number, value } = Answer::like(told.map(|(_, _, count)| count));
+        let Answer { number, value } = Answer::like(told.map(|(_, _, seeds)| seeds));
+        let (specified, bits, _) = told.unwrap_or_default();
         CubesAnswer {
             number,
             value,

@@ -26,7 +26,8 @@ use Rattle.refusal_order.specs.Order.{firstOf}
 use Rattle.refusal_order.specs.declared.Verdict.{Verdict}
 use Rattle.refusal_order.proofs.Order.{first-here, first-later}
 use Rattle.face_numbers.specs.declared.SliceAnswer.{SliceAnswer}
-use Rattle.face_numbers.specs.States.{noState, noSlice, stateAnswer, sliceAnswer, registerTest, chainsTest, stateTest, stepCall, sliceCall, stepFound, sliceFound}
+use Rattle.face_numbers.specs.States.{noState, noSlice, stateAnswer, sliceAnswer, registerTest, chainsTest, stateTest, stepCall, sliceCall}
+use Rattle.face_numbers.specs.Found.{stepFound, sliceFound}
 
 module _ (r : Register) (s : ℕ) where
   pub beyond-state : beyond (r .cells) s ≡ true → noState (cause.SeedBeyond 0) ≡ stepFound r s

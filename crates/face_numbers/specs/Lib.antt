@@ -1,3 +1,4 @@
 -- What the entries on numbers answer.
 pub mod States
+pub mod Found
 pub mod Stop

@@ -4,15 +4,13 @@
 --     registerTest, chainsTest, stateTest     causes 1, 2 and 10; the state is the one seed that is handed in, so its place is 0
 --     stepCall g s                         the state after one step: cause 1, then 10
 --     sliceCall g masks s                  the slice: causes 1 and 2, then 10
---     stepFound r s, sliceFound g masks s         the same where the register is lawful
 use mathlib.Core.List.{List, [], _∷_}
 use Prim.Native.Nat.{ℕ}
 use Rattle.words_gf2.specs.Words.{beyond}
 use Rattle.refusal_causes.specs.declared.Cause.{Cause}
 use Rattle.refusal_causes.specs.declared.Cause.the-variants as cause
 use Rattle.refusal_causes.specs.Sheet.{refusalOf}
-use Rattle.machine_register.specs.Register.{badRegister, step, stepOf}
-use Rattle.machine_register.specs.declared.Register.{Register}
+use Rattle.machine_register.specs.Register.{badRegister, step}
 use Rattle.machine_chains.specs.Chains.{badChains}
 use Rattle.machine_settings.specs.Machine.{machine}
 use Rattle.machine_settings.specs.declared.Settings.{Settings}
@@ -50,9 +48,3 @@ stepCall g s = stateAnswer (firstOf (registerTest g ∷ stateTest (g .cells) s �
 
 unfoldable pub sliceCall : Settings → List ℕ → ℕ → SliceAnswer
 sliceCall g masks s = sliceAnswer (firstOf (registerTest g ∷ chainsTest (g .cells) masks ∷ stateTest (g .cells) s ∷ [])) (machine g masks .slice s)
-
-unfoldable pub stepFound : Register → ℕ → StateAnswer
-stepFound r s = stateAnswer (firstOf (stateTest (r .cells) s ∷ [])) (stepOf r s)
-
-unfoldable pub sliceFound : Settings → List ℕ → ℕ → SliceAnswer
-sliceFound g masks s = sliceAnswer (firstOf (chainsTest (g .cells) masks ∷ stateTest (g .cells) s ∷ [])) (machine g masks .slice s)

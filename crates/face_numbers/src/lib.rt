@@ -7,7 +7,8 @@ use stop_slice::Formed;
 ghost use mathlib.Core.Path.{_≡_};
 ghost use Rattle.stop_slice.specs.Entry.{stopOf};
 ghost use Rattle.face_values.specs.Values.{settingsOf};
-ghost use Rattle.face_numbers.specs.States.{stepCall, sliceCall, stepFound, sliceFound, noState, noSlice};
+ghost use Rattle.face_numbers.specs.States.{stepCall, sliceCall, noState, noSlice};
+ghost use Rattle.face_numbers.specs.Found.{stepFound, sliceFound};
 ghost use Rattle.face_numbers.specs.Stop.{stopAnswerOf};
 
 // The answer of the call for a step: number 0 with the state after it, or the number and value of the refusal, and state 0.

@@ -32,7 +32,7 @@ use Rattle.text_replies.specs.Replies.{text, refused, lent}
 use Rattle.text_calls.specs.Texts.{concluded, replyTo, expandReply}
 use Rattle.text_meaning.specs.Sheets.{ReadThrough}
 use Rattle.text_meaning.specs.Lists.{listOf, slicesIn, listFaultsOf, ranOf, ListMeaning}
-use Rattle.text_meaning.proofs.Stops.{stops-at}
+use Rattle.text_meaning.proofs.Stops.{stops-at, line-refused}
 
 module _ (s : List ℕ) where
   abbrev g : Settings
@@ -49,10 +49,6 @@ module _ (s : List ℕ) where
 
   abbrev o : Outcome
   o = expandList g masks stop (slicesIn s) seeds lent
-
-  line-refused : (c : Refusal) → readingOf SeedList s .end ≡ scanned.Refused c → expandReply s ≡ refused c
-  unfolding replyTo concluded
-  line-refused c e = rw (e, concluded)
 
   module _ (read : ReadThrough SeedList s) where
     reply-slices : (p : Outcome) → o ≡ p → expandReply s ≡ slicesReply (length masks) (p .buffer) (p .answer)
@@ -96,7 +92,7 @@ module _ (s : List ℕ) where
 
   pub list-means : ListMeaning s (expandReply s)
   list-means = record {
-    line = λ c e. (stops-at SeedList c s e, line-refused c e);
+    line = λ c e. (stops-at SeedList c s e, line-refused SeedList c s e);
     unformed = unformed;
     seed = seed-refused;
     total = total-refused;

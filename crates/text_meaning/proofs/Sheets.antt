@@ -53,7 +53,7 @@ use Rattle.text_spelling.proofs.Head.{head-spelt}
 use Rattle.text_roundtrip.specs.RoundTrip.{sheetOf, setOf, Quoted}
 use Rattle.text_roundtrip.proofs.Whole.{quoted, round-trip}
 use Rattle.text_meaning.specs.Sheets.{ReadThrough, machineIn, rulesIn, Repeats, StoppedSheet, SheetMeaning}
-use Rattle.text_meaning.proofs.Stops.{stops-at}
+use Rattle.text_meaning.proofs.Stops.{stops-at, line-refused}
 
 refused-is : (c d : Refusal) → refused c ≡ refused d → c ≡ d
 refused-is c d e = cc
@@ -97,10 +97,6 @@ module _ (s : List ℕ) where
 
   abbrev listed : Encoded → Reply
   listed a = listReply g masks (length ps) (o .buffer) a
-
-  line-refused : (c : Refusal) → readingOf Sheet s .end ≡ scanned.Refused c → encodeReply s ≡ refused c
-  unfolding replyTo concluded
-  line-refused c e = rw (e, concluded)
 
   module _ (read : ReadThrough Sheet s) where
     reply-listed : encodeReply s ≡ listed (o .answer)
@@ -168,7 +164,7 @@ module _ (s : List ℕ) where
 
   pub sheet-means : SheetMeaning s (encodeReply s)
   sheet-means = record {
-    line = λ c e. (stops-at Sheet c s e, line-refused c e);
+    line = λ c e. (stops-at Sheet c s e, line-refused Sheet c s e);
     unformed = λ read c w. reply-refused read c (answer-refused c (cubes-means g masks ps bs lent depth .refused c w));
     unstopped = λ read w n. (let u = cubes-means g masks ps bs lent depth .unstopped w n in (reply-refused read cause.SlicesIn (answer-refused cause.SlicesIn (u .0)), u .1));
     stopped = λ read w stop e. stopped-means read stop (cubes-means g masks ps bs lent depth .stopped w stop e) e;

@@ -1,4 +1,6 @@
--- Reading stops at the line after the accepted ones (`stops-at`).
+-- A text of which a line is refused.
+--     stops-at         reading stops at the line after the accepted ones
+--     line-refused     and its refusal is the reply
 -- Assumes nothing.
 use mathlib.Core.Bool.{Bool, true, false}
 use mathlib.Core.Path.{_≡_, refl, sym, ap, _∙_}
@@ -22,6 +24,8 @@ use Rattle.text_ending.specs.Ending.{refusedAt, endOf}
 use Rattle.text_ending.specs.declared.Scanned.the-variants as scanned
 use Rattle.text_ending.proofs.Ends.{end-whole, end-early, refused-whole}
 use Rattle.text_reading.specs.Reading.{Reading, onward, reading, readingOf}
+use Rattle.text_replies.specs.Replies.{refused}
+use Rattle.text_calls.specs.Texts.{concluded, replyTo}
 use Rattle.text_meaning.specs.Sheets.{StopsAt}
 
 refused-is : (c d : Refusal) → scanned.Refused c ≡ scanned.Refused d → c ≡ d
@@ -56,3 +60,7 @@ module _ (kind : Kind) (c : Refusal) where
   pub stops-at : (s : List ℕ) → readingOf kind s .end ≡ scanned.Refused c → StopsAt kind s c
   unfolding readingOf
   stops-at s e = record { stops = e; line = text-line (split s) start 1 e }
+
+  pub line-refused : (s : List ℕ) → readingOf kind s .end ≡ scanned.Refused c → replyTo kind s ≡ refused c
+  unfolding replyTo concluded
+  line-refused s e = rw (e, concluded)

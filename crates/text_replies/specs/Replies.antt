@@ -18,7 +18,7 @@ abbrev pub RefusedBy : (ℕ → Type 0) → Reply → Type 0
 RefusedBy P (text bs n) = Unit {0}
 RefusedBy P (refused r) = P (r .number)
 
--- There is always space: a set has no more seeds than slices, and an accepted list as many slices as it says (proved in roundtrip, Space).
+-- There is always space: a set has no more seeds than slices, and an accepted list as many slices as it says (`spacious` and `slices-told` of crates/text_meaning/proofs).
 abbrev pub lent : List ℕ
 lent = replicate mostSlices 0
 
