@@ -17,7 +17,7 @@ extern "C" {
 #endif
 
 /* The version of this header and of the Rust package; docs/library.md says what stays from one to the next. */
-#define SEEDS_VERSION "0.3.0"
+#define SEEDS_VERSION "0.4.0"
 
 /* Most cells of a register; most chains; most slices of a window, and the greatest depth; most slices of a set, and most seeds
  * of a list. */
@@ -41,7 +41,7 @@ enum seeds_cause {
     SEEDS_LENGTHS = 3,       /* a depth, a window length, a number of slices or seeds */
     SEEDS_TEST_SLICE = 4,    /* a test slice, or two lists unequally long */
     SEEDS_STOP_SLICE = 5,    /* the stop slice */
-    SEEDS_SLICES_IN = 6,     /* the stop slice steps end with slices in */
+    SEEDS_ALL_TAKEN = 6,     /* the fully specified slices take up all patterns */
     SEEDS_NO_SEED = 7,       /* no state covers the window */
     SEEDS_NO_CUTTING = 8,    /* the set can't be cut */
     SEEDS_NO_SPACE = 9,      /* the lent buffer is too short */

@@ -199,8 +199,10 @@ pub fn examples() -> Outcome {
     }
     let (call, known) = bench::sheet_set();
     count += compare_known_cubes(&mut random, &call, known, &mut met)?;
-    for call in bench::starred_in() {
-        count += compare_known_cubes(&mut random, &call, refused(6, 0), &mut met)?;
+    // with the stop 11, R delivers the first five of the two chains' slices and not the sixth
+    let [(one_chain, _), (two_chains, _)] = bench::starred_in();
+    for (call, known) in [(one_chain, refused(6, 0)), (two_chains, refused(8, 5))] {
+        count += compare_known_cubes(&mut random, &call, known, &mut met)?;
     }
     let call = bench::figure_set();
     let told = call.encode_cubes(&mut [0; 6]);

@@ -30,6 +30,7 @@ mod sample;
 mod seen;
 mod sheets;
 mod small;
+mod spares;
 mod stops;
 mod tally;
 mod text;
@@ -136,6 +137,18 @@ fn library_leaves(report: &mut Report) {
     report.case("library: checks of small calls", leaves::checks());
     report.case("library: checks of wide calls", leaves::wide_checks());
     report.case("library: stop slice", stops::answers());
+    report.case(
+        "library: stop slice of every small set",
+        spares::every_small_set(),
+    );
+    report.case(
+        "library: stop slice where all patterns but one are taken",
+        spares::all_but_one(),
+    );
+    report.case(
+        "library: stop slice of many chains",
+        spares::many_chains(),
+    );
     report.case("library: expanding", expands::answers());
 }
 

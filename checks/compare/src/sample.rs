@@ -149,7 +149,7 @@ fn cause(refused: Refused) -> String {
         "Lengths",
         "TestSlice",
         "StopSlice",
-        "SlicesIn",
+        "AllTaken",
         "NoSeed",
         "NoCutting",
         "NoSpace",
@@ -268,7 +268,9 @@ fn lists(random: &mut Random, count: usize) -> Table {
 
 fn stops(random: &mut Random, count: usize) -> Table {
     let rows = (0..count).map(|_| {
-        let mut call = lawful(random, 5, 5, 8);
+        // every second set has at most two chains, so that slices are often in when the steps end
+        let most_chains = [5, 2][usize::from(random.one_in(2))];
+        let mut call = lawful(random, 5, most_chains, 8);
         if random.one_in(4) {
             damage_lightly(random, &mut call);
         }

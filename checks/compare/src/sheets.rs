@@ -57,7 +57,17 @@ fn long(random: &mut Random) -> Call {
     call
 }
 
-/// A set of any kind: mostly small, some for up to 64 chains, few as long as can be.
+/// A set of two or three chains that takes up most patterns or all: the stop slice steps often end with slices in.
+fn pressed(random: &mut Random) -> Call {
+    let (cells, chains) = (random.between(3, 8), random.between(2, 3));
+    let mut call = shaped(random, cells, chains);
+    let count = random.between(1, 3 << chains);
+    fill(random, &mut call, count, 80);
+    call.depth = 1;
+    call
+}
+
+/// A set of any kind: mostly small, some for up to 64 chains, some that take up most patterns, few as long as can be.
 fn any_set(random: &mut Random) -> Call {
     let percent = [10, 30, 60, 100][random.between(0, 3)];
     match random.below(300) {
@@ -73,6 +83,7 @@ fn any_set(random: &mut Random) -> Call {
             fill(random, &mut call, count, percent);
             call
         }
+        81..=120 => pressed(random),
         _ => small(random, 12),
     }
 }

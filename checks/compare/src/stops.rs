@@ -1,4 +1,4 @@
-// The library's stop slice steps against the second program's: the answers for whole and damaged sets, and the counts of the slices still in.
+// The library's stop slices against the second program's: the answers for whole and damaged sets, and what its steps met.
 
 use crate::inputs::damage_slice;
 use crate::library::{self, Like, StopAnswer};
@@ -8,15 +8,15 @@ use crate::seen::Seen;
 
 /// What a call for a stop slice hands in.
 #[derive(Clone, Debug)]
-struct Set {
-    chains: usize,
-    specified: Vec<u64>,
-    bits: Vec<u64>,
+pub struct Set {
+    pub chains: usize,
+    pub specified: Vec<u64>,
+    pub bits: Vec<u64>,
 }
 
 impl Set {
     /// A set of no slices yet.
-    fn new(chains: usize) -> Set {
+    pub fn new(chains: usize) -> Set {
         Set {
             chains,
             specified: Vec::new(),
@@ -24,7 +24,7 @@ impl Set {
         }
     }
 
-    fn push(&mut self, specified: u64, bits: u64) {
+    pub fn push(&mut self, specified: u64, bits: u64) {
         self.specified.push(specified);
         self.bits.push(bits & specified);
     }
@@ -79,10 +79,24 @@ fn crowded(random: &mut Random, chains: usize, missing: usize) -> Set {
     set
 }
 
+/// Most patterns of two or three chains, and as many slices with an x or again: the steps often end with slices in where a pattern is free.
+fn pressed(random: &mut Random) -> Set {
+    let (chains, missing) = (random.between(2, 3), random.between(1, 2));
+    let mut set = crowded(random, chains, missing);
+    let again = random.between(0, set.specified.len());
+    for place in 0..again {
+        let x = 1 << random.between(0, chains - 1);
+        let specified = set.specified[place] & !(x * random.below(3).min(1));
+        set.push(specified, set.bits[place]);
+    }
+    set
+}
+
 fn small(random: &mut Random) -> Set {
     let (chains, count) = (random.between(1, 8), random.between(1, 12));
     let missing = random.between(0, 1);
-    match random.below(8) {
+    match random.below(10) {
+        8 | 9 => pressed(random),
         0 => loose(random, chains, count, 0),
         1 => tied(random, chains, count),
         2 => crowded(random, chains.min(3), missing),
@@ -136,12 +150,16 @@ fn damage(random: &mut Random, set: &mut Set) {
     }
 }
 
-fn compare(set: &Set, seen: &mut Seen) -> Outcome {
+/// The library's answer for a set is the second program's.
+pub fn compare(set: &Set, seen: &mut Seen) -> Outcome {
     let (chains, specified, bits) = (set.chains, &set.specified, &set.bits);
     let told = second::stop_slice(chains as u64, specified, bits);
     seen.answer(&told);
     if let Ok(trace) = second::stop_trace(chains as u64, specified, bits) {
         note_steps(chains, &trace, seen);
+        if !trace.left.is_empty() && told.is_ok() {
+            seen.note("a spare pattern");
+        }
     }
     let ours = library::stop(chains, specified, bits);
     same("the stop slice", ours, StopAnswer::like(told))
@@ -230,6 +248,7 @@ pub fn answers() -> Outcome {
         "the greatest count again to the right",
         "a stop slice with every position set",
         "a stop slice with position 64 set",
+        "a spare pattern",
     ])?;
     Ok(count)
 }

@@ -55,8 +55,8 @@ pub fn encode_set(
     hand_out(&cut(&machine, spec, bits)?, out)
 }
 
-/// Encodes cubes of `depth` slices with the stop slice by the steps. Returns the stop's
-/// specified positions, its bits and the number of seeds, which stand first in `out`.
+/// Encodes cubes of `depth` slices with the stop slice that `stop_slice` gives. Returns the
+/// stop's specified positions, its bits and the number of seeds, which stand first in `out`.
 /// Causes 1, 2, 3, 4, 6, 8, 9; on refusal `out` is as it was.
 pub fn encode_cubes(
     cells: u64,

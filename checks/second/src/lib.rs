@@ -2,10 +2,12 @@
 // Follows document 01, "Refusal sheet".
 
 //! Self-stopping seeds for scan slices: a second program, made from document
-//! 004 (section III.A, figure 2) and document 01, without sight of the definitions.
+//! 004 (section III.A, figure 2), document 01 and document 02, without sight of
+//! the definitions.
 
 mod brute;
 mod brute_sheet;
+mod brute_stop;
 mod check;
 mod encode;
 mod expand;
@@ -20,6 +22,7 @@ mod window;
 
 pub use brute::{brute_set, brute_window, covers, BruteSet, MOST_BRUTE_CELLS};
 pub use brute_sheet::{brute_text, BruteText};
+pub use brute_stop::{brute_stop_exists, MOST_BRUTE_CHAINS};
 pub use check::{check_chains, check_register, check_slices, check_stop};
 pub use encode::{encode_cubes, encode_set};
 pub use expand::expand;
@@ -27,7 +30,7 @@ pub use lines::{refusal_text, slice_of, slice_text};
 pub use list::expand_text;
 pub use register::{agrees, shows, slice, step};
 pub use sheet::encode_text;
-pub use stop::{stop_slice, stop_trace, Iteration, StopTrace};
+pub use stop::{spare_pattern, stop_slice, stop_trace, Iteration, StopTrace};
 pub use window::window_seed;
 
 /// Most cells of a register.

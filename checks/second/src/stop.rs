@@ -1,8 +1,11 @@
-// Holds the stop slice steps, with what each iteration counted, chose and removed.
-// Follows document 004, section III.A, and document 01, "Stop slice steps".
+// Holds the stop slice steps, with what each iteration counted, chose and removed, and
+// the spare pattern that is the stop slice when they end with slices in.
+// Follows document 004, section III.A, document 01, "Stop slice steps", and document 02, R-1.
 
 use crate::check::{check_chain_count, check_slice_count, check_slices};
+use crate::register::low_bits;
 use crate::{refuse, Refused};
+use std::collections::BTreeSet;
 
 /// One iteration of the steps.
 #[derive(Clone, Debug, PartialEq, Eq)]
@@ -23,10 +26,11 @@ pub struct Iteration {
 #[derive(Clone, Debug, PartialEq, Eq)]
 pub struct StopTrace {
     pub iterations: Vec<Iteration>,
-    /// The stop slice's specified positions and its bits there.
+    /// The positions that the steps set and the bits there: the stop slice if no slice is left.
     pub stop_spec: u64,
     pub stop_bits: u64,
-    /// The places, from 0, of the slices still in at the end; if any, the set is refused by 6.
+    /// The places, from 0, of the slices still in at the end; if any, every position is set,
+    /// and not these steps but the spare pattern decides.
     pub left: Vec<usize>,
 }
 
@@ -69,7 +73,8 @@ fn choose(zeros: &[u64], ones: &[u64], set: u64) -> Option<(u64, u64)> {
     best.map(|(_, position, bit)| (position, bit))
 }
 
-/// Runs the steps and returns all iterations. Causes 2, 3, 4.
+/// Runs the published steps and returns all iterations, whether or not they end with slices
+/// in. Causes 2, 3, 4.
 pub fn stop_trace(chains: u64, spec: &[u64], bits: &[u64]) -> Result<StopTrace, Refused> {
     check_chain_count(chains)?;
     check_slice_count(spec.len() as u64)?;
@@ -107,11 +112,30 @@ pub fn stop_trace(chains: u64, spec: &[u64], bits: &[u64]) -> Result<StopTrace, 
     Ok(trace)
 }
 
-/// The stop slice by the steps: specified positions and bits. Causes 2, 3, 4, 6.
+/// The smallest fully specified pattern, as a number in which chain j has weight 2^(j-1),
+/// that no fully specified slice equals. None if these take up all 2^chains patterns. For
+/// chains and slices that have passed causes 2 and 4.
+pub fn spare_pattern(chains: u64, spec: &[u64], bits: &[u64]) -> Option<u64> {
+    let all = low_bits(chains);
+    let mut taken = BTreeSet::new();
+    for (&places, &values) in spec.iter().zip(bits) {
+        if places == all {
+            taken.insert(values);
+        }
+    }
+    // Every try but the last meets another taken pattern, so the walk is short.
+    (0..=all).find(|pattern| !taken.contains(pattern))
+}
+
+/// The stop slice: specified positions and bits. The steps decide if they end with no slice
+/// in, else the spare pattern, fully specified. Causes 2, 3, 4, and 6 if there is none.
 pub fn stop_slice(chains: u64, spec: &[u64], bits: &[u64]) -> Result<(u64, u64), Refused> {
     let trace = stop_trace(chains, spec, bits)?;
-    if !trace.left.is_empty() {
-        return refuse(6, 0);
+    if trace.left.is_empty() {
+        return Ok((trace.stop_spec, trace.stop_bits));
     }
-    Ok((trace.stop_spec, trace.stop_bits))
+    match spare_pattern(chains, spec, bits) {
+        Some(pattern) => Ok((low_bits(chains), pattern)),
+        None => refuse(6, 0),
+    }
 }

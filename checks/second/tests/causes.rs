@@ -118,6 +118,7 @@ fn no_input_panics() {
         let _ = (check_register(a, b), check_chains(a, &masks));
         let _ = (check_slices(a, &spec, &bits), check_stop(a, b, c));
         let _ = (stop_slice(a, &spec, &bits), stop_trace(a, &spec, &bits));
+        let _ = spare_pattern(a, &spec, &bits);
         let _ = window_seed(a, b, &masks, c, d, &spec, &bits);
         let _ = covers(a, b, &masks, c, d, &spec, &bits, d);
         let mut unchanged = encode_set(a, b, &masks, c, d, &spec, &bits, &mut out).is_err();

@@ -1,6 +1,6 @@
 -- The encoding of cubes, as a whole call (document 01's refusal sheet: 1 to 4, then 6, then 8, then 9).
 --     CubesOutcome, stopped, withStop      an answer that carries the stop slice too
---     cubesEncoding g masks specified bits out     the answer and the buffer that the encoding of a set leaves, with the stop slice of the steps, or cause 6
+--     cubesEncoding g masks specified bits out     the answer and the buffer that the encoding of a set leaves, with its stop slice, or cause 6
 --     encodeCubes g masks depth specified bits out     the same of the whole call for cubes of depth slices
 use mathlib.Core.Option.{none, some}
 use mathlib.Core.List.{List}
@@ -36,7 +36,7 @@ withStop stop o = record { answer = stopped stop (o .answer); buffer = o .buffer
 
 unfoldable pub cubesEncoding : Settings → List ℕ → List ℕ → List ℕ → List ℕ → CubesOutcome
 cubesEncoding g masks specified bits out = elim (stopFor (length masks) (paired specified bits)) [
-  | none ↦ record { answer = Refused cause.SlicesIn; buffer = out }
+  | none ↦ record { answer = Refused cause.AllTaken; buffer = out }
   | some stop ↦ withStop stop (encoding (machine g masks) (rules g stop) (paired specified bits) out)
 ]
 

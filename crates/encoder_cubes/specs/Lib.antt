@@ -1,4 +1,4 @@
--- The encoding of cubes with the stop slice of the steps, and what its answer means.
+-- The encoding of cubes with their stop slice, and what its answer means.
 pub mod Cubes
 pub mod Meaning
 pub mod Formed

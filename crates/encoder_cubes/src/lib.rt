@@ -1,4 +1,4 @@
-// The encoding of cubes (document 01, "Covering and cutting"): the stop slice of the steps, then as for a set.
+// The encoding of cubes (document 01, "Covering and cutting"): their stop slice, then as for a set.
 use encoder_meaning::Encoded;
 use machine_settings::Settings;
 use machine_slices::TestSlice;
@@ -11,7 +11,7 @@ ghost use Rattle.encoder_cubes.specs.Cubes.{cubesEncoding, encodeCubes, 
 ghost use Rattle.encoder_cubes.specs.Formed.{CubesFormed};
 ghost use Rattle.encoder_cubes.specs.Meaning.{CubesMeaning};
 
-// The answer with the stop slice of the steps.
+// The answer with the stop slice.
 fn with_stop(stop: TestSlice, written: Written) -> Encoded
     ensures { λ r. ⌜ r ≡ stopped stop written ⌝ }
 {
@@ -21,7 +21,7 @@ fn with_stop(stop: TestSlice, written: Written) -> Encoded
     }
 }
 
-// The encoding of cubes that are well-formed: the stop slice by the steps, then as for a set.
+// The encoding of cubes that are well-formed: their stop slice, then as for a set.
 fn encode_formed(
     settings: Settings,
     masks: &[u64],
@@ -43,7 +43,7 @@ fn encode_formed(
     }
 }
 
-// The encoding of cubes of so many slices each: the stop slice of the steps and how many seeds were written into the buffer, or the first of causes 1 to 4 that holds, then 6, then 8, then 9.
+// The encoding of cubes of so many slices each: their stop slice and how many seeds were written into the buffer, or the first of causes 1 to 4 that holds, then 6, then 8, then 9.
 pub fn encode_cubes(
     settings: Settings,
     masks: &[u64],

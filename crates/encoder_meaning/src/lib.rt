@@ -2,7 +2,7 @@
 use machine_slices::TestSlice;
 use refusal_causes::Cause;
 
-// The answer of the encoding of cubes: the stop slice of the steps with the number of seeds, or a refusal.
+// The answer of the encoding of cubes: the stop slice with the number of seeds, or a refusal.
 pub enum Encoded {
     Seeds(TestSlice, usize),
     Refused(Cause),

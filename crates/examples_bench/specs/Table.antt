@@ -28,7 +28,8 @@ use Rattle.refusal_lengths.specs.Lengths.{badLimit, badWindow, badSet, badCubes
 use Rattle.refusal_order.specs.Order.{tests, firstOf, judged}
 use Rattle.refusal_checks.specs.Calls.{limited, callFaults, windowFaults, setFaults, cubesFaults, stopFaults, listFaults}
 use Rattle.theory_cutting.specs.Greedy.{reach, hop, ends, greedy}
-use Rattle.stop_steps.specs.Steps.{filter, count, better, choice, settle, keep, setBy, advance, stage, ended, stopFor}
+use Rattle.stop_steps.specs.Steps.{filter, count, better, choice, settle, keep, setBy, advance, stage, ended, steps, stopFor}
+use Rattle.stop_spare.specs.Spare.{equals, taken, spare, spareStop}
 use Rattle.stop_slice.specs.Entry.{stopOr6, stopOf}
 use Rattle.stop_slice.specs.declared.Formed.{Formed}
 use Rattle.stop_slice.specs.declared.Formed.the-variants as formed
@@ -127,10 +128,16 @@ table =
     record { asked = stepping 1 7; told = numbers (2 ∷ 5 ∷ 3 ∷ 7 ∷ 6 ∷ 4 ∷ 1 ∷ []) }
     -- document 004, figure 2
     ∷ record { asked = stop-slice 10 ("x001x10x11" ∷ "10xx0010xx" ∷ "xx10xx01x1" ∷ "x1xxxx110x" ∷ "01x11xx110" ∷ "x0xxxxxxxx" ∷ []); told = slice-is (slice "x1xxxxx0xx") }
-    -- one chain, slices 0 and 1
+    -- one chain, slices 0 and 1: refused before R-1 and after it, for both patterns are taken
     ∷ record { asked = stop-slice 1 ("0" ∷ "1" ∷ []); told = refused 6 0 }
-    -- two chains, slices 1x, 1x, 1x, 10, 00, 01
-    ∷ record { asked = stop-slice 2 ("1x" ∷ "1x" ∷ "1x" ∷ "10" ∷ "00" ∷ "01" ∷ []); told = refused 6 0 }
+    -- two chains, slices 1x, 1x, 1x, 10, 00, 01: refused by 6 until R-1 of document 02
+    ∷ record { asked = stop-slice 2 ("1x" ∷ "1x" ∷ "1x" ∷ "10" ∷ "00" ∷ "01" ∷ []); told = slice-is (slice "11") }
+    -- R-1: 100 is smaller than 001, for the leftmost character counts least; 0xx, 01x and 10x take no pattern
+    ∷ record { asked = stop-slice 3 ("0xx" ∷ "01x" ∷ "101" ∷ "111" ∷ "10x" ∷ "110" ∷ "010" ∷ "000" ∷ []); told = slice-is (slice "100") }
+    -- R-1: the last pattern is tried too, and all four taken are refused
+    ∷ record { asked = stop-slice 2 ("10" ∷ "00" ∷ "01" ∷ "1x" ∷ "10" ∷ "11" ∷ []); told = refused 6 0 }
+    -- R-1: where the steps succeed, they decide
+    ∷ record { asked = stop-slice 2 ("10" ∷ "00" ∷ []); told = slice-is (slice "x1") }
     -- windows of R with the stop 01
     ∷ record { asked = window "01" ("10" ∷ "x1" ∷ []); told = numbers (3 ∷ []) }
     ∷ record { asked = window "01" ("10" ∷ []); told = refused 7 0 }
@@ -159,5 +166,5 @@ tolds [] = []
 tolds (r ∷ rs) = r .told ∷ tolds rs
 
 pub starred : answers table ≡ tolds table
-unfolding answers tolds answer refusal states showings of-formed of-seed of-written of-encoded yes digit odd beyond ones onesIn within any leastBelow lastBelow refuse fill step badRegister chainsSlice badCount badMask badChains agrees shows paired badSlice badSlices badStop badLimit badWindow badSet badCubes badList tests firstOf judged limited callFaults windowFaults setFaults cubesFaults stopFaults listFaults reach hop ends greedy filter count better choice settle keep setBy advance stage ended stopFor stopOr6 stopOf fits quiet covers seedOf before far placed closes seedAt ok lowestOr7 windowSeed slicesOf firstStop ending delivers after adding walk totalled expanding expandList seedsOf planned encoding encodeSet stopped withStop cubesEncoding encodeCubes isCharacter specifiedAt bitAt inFront sliceOf
+unfolding answers tolds answer refusal states showings of-formed of-seed of-written of-encoded yes digit odd beyond ones onesIn within any leastBelow lastBelow refuse fill step badRegister chainsSlice badCount badMask badChains agrees shows paired badSlice badSlices badStop badLimit badWindow badSet badCubes badList tests firstOf judged limited callFaults windowFaults setFaults cubesFaults stopFaults listFaults reach hop ends greedy filter count better choice settle keep setBy advance stage ended equals taken spare spareStop steps stopFor stopOr6 stopOf fits quiet covers seedOf before far placed closes seedAt ok lowestOr7 windowSeed slicesOf firstStop ending delivers after adding walk totalled expanding expandList seedsOf planned encoding encodeSet stopped withStop cubesEncoding encodeCubes isCharacter specifiedAt bitAt inFront sliceOf
 starred = refl

@@ -21,7 +21,8 @@ use Rattle.refusal_lengths.specs.Lengths.{badLimit, badSet, badCubes, badList}
 use Rattle.refusal_order.specs.Order.{tests, firstOf, judged}
 use Rattle.refusal_checks.specs.Calls.{limited, callFaults, cubesFaults, listFaults}
 use Rattle.theory_cutting.specs.Greedy.{reach, hop, ends, greedy}
-use Rattle.stop_steps.specs.Steps.{filter, count, better, choice, settle, keep, setBy, advance, stage, ended, stopFor}
+use Rattle.stop_steps.specs.Steps.{filter, count, better, choice, settle, keep, setBy, advance, stage, ended, steps, stopFor}
+use Rattle.stop_spare.specs.Spare.{equals, taken, spare, spareStop}
 use Rattle.theory_covering.specs.Covering.{fits, quiet, covers, seedOf}
 use Rattle.theory_covering.specs.Windows.{before, far, placed, closes, seedAt, ok}
 use Rattle.expander_meaning.specs.Run.{slicesOf, firstStop, ending, delivers}
@@ -156,6 +157,8 @@ table =
     ∷ record { asked = encode (R "depth=2\nslice=10\n"); told = prints (bytes "refused=3\nat=0\n") }
     ∷ record { asked = encode (bytes "cells=3\ntaps=6\nchains=1\nchain=1\ndepth=1\nslice=0\nslice=1\n"); told = prints (bytes "refused=6\nat=0\n") }
     ∷ record { asked = encode (R "depth=1\nslice=1x\nslice=01\n"); told = prints (bytes "refused=8\nat=1\n") }
+    -- the designer's six slices of R-1, document 02: the steps end with slices in, and 11 is spare
+    ∷ record { asked = encode (bytes "cells=4\ntaps=9\nchains=2\nchain=1\nchain=8\ndepth=1\nslice=1x\nslice=1x\nslice=1x\nslice=10\nslice=00\nslice=01\n"); told = prints (bytes "cells=4\ntaps=9\nchains=2\nchain=1\nchain=8\nstop=11\nslices=6\nseed=1\nseed=5\nseed=6\n") }
     -- over the whole list: no seed line, a seed beyond the cells, at the stop, without a stop, another total
     ∷ record { asked = expand (R "stop=0x\nslices=4\n"); told = prints (bytes "refused=14\nat=0\n") }
     ∷ record { asked = expand (R "stop=0x\nslices=4\nseed=3\nseed=8\n"); told = prints (bytes "refused=10\nat=1\n") }
@@ -180,5 +183,5 @@ tolds [] = []
 tolds (r ∷ rs) = r .told ∷ tolds rs
 
 pub worked : answers table ≡ tolds table
-unfolding answers tolds answer of-call ones onesIn within any leastBelow lastBelow digit odd beyond refuse fill step badRegister slice badCount badMask badChains agrees shows paired badSlice badSlices badStop badLimit badSet badCubes badList tests firstOf judged limited callFaults cubesFaults listFaults reach hop ends greedy filter count better choice settle keep setBy advance stage ended stopFor fits quiet covers seedOf before far placed closes seedAt ok slicesOf firstStop ending delivers after adding walk totalled expanding expandList seedsOf planned encoding stopped withStop cubesEncoding encodeCubes starts rows rowAt name keyOf same notation longest most range cause worth digits leadingZero number isCharacter specifiedAt bitAt inFront sliceOf numbered sliced characters valued keyed named formed split runOf moved afterKey missing mayStand among inOrder mayEnd outside outOfRange tested ranged saying endOf reading readingOf picked glyph lastDigits numeral character charactersOf numberLine numberLines sliceLine sliceLines headText listText refusedText listReply slicesReply encoded expanded sheetReply seedListReply concluded printed replyTo printedFor answered called callOf
+unfolding answers tolds answer of-call ones onesIn within any leastBelow lastBelow digit odd beyond refuse fill step badRegister slice badCount badMask badChains agrees shows paired badSlice badSlices badStop badLimit badSet badCubes badList tests firstOf judged limited callFaults cubesFaults listFaults reach hop ends greedy filter count better choice settle keep setBy advance stage ended equals taken spare spareStop steps stopFor fits quiet covers seedOf before far placed closes seedAt ok slicesOf firstStop ending delivers after adding walk totalled expanding expandList seedsOf planned encoding stopped withStop cubesEncoding encodeCubes starts rows rowAt name keyOf same notation longest most range cause worth digits leadingZero number isCharacter specifiedAt bitAt inFront sliceOf numbered sliced characters valued keyed named formed split runOf moved afterKey missing mayStand among inOrder mayEnd outside outOfRange tested ranged saying endOf reading readingOf picked glyph lastDigits numeral character charactersOf numberLine numberLines sliceLine sliceLines headText listText refusedText listReply slicesReply encoded expanded sheetReply seedListReply concluded printed replyTo printedFor answered called callOf
 worked = refl

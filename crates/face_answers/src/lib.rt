@@ -20,7 +20,7 @@ pub struct SeedAnswer {
     pub seed: u64,
 }
 
-// The answer of the call for cubes: number 0 with the seeds written and the stop slice of the steps, or the number and value of the refusal, and no position.
+// The answer of the call for cubes: number 0 with the seeds written and the stop slice, or the number and value of the refusal, and no position.
 #[repr(C)]
 pub struct CubesAnswer {
     pub number: usize,

@@ -34,7 +34,7 @@ pub fn encode_set(
     face_answers::answer_of(written)
 }
 
-// The stop slice of the steps and the seeds of cubes, written into the buffer: causes 1 to 4, then 6, then 8, then 9.
+// The stop slice and the seeds of cubes, written into the buffer: causes 1 to 4, then 6, then 8, then 9.
 pub fn encode_cubes(
     settings: Settings,
     masks: &[u64],

@@ -6,6 +6,7 @@ use refusal_causes::Cause;
 use stop_slice::Formed;
 ghost use mathlib.Core.Path.{_≡_};
 ghost use Rattle.stop_slice.specs.Entry.{stopOf};
+ghost use Rattle.stop_slice.specs.Meaning.{FormedMeaning};
 ghost use Rattle.face_values.specs.Values.{settingsOf};
 ghost use Rattle.face_numbers.specs.States.{stepCall, sliceCall, noState, noSlice};
 ghost use Rattle.face_numbers.specs.Found.{stepFound, sliceFound};
@@ -136,7 +137,8 @@ fn stop_answer_of(formed: Formed) -> StopAnswer
 
 // The stop slice of a set: causes 2, 3, 4, then 6.
 pub fn stop_slice(chains: usize, specified: &[u64], bits: &[u64]) -> StopAnswer
-    ensures { λ r. ⌜ r ≡ stopAnswerOf (stopOf chains (now (specified .entry)) (now (bits .entry))) ⌝ }
+    ensures answer { λ r. ⌜ r ≡ stopAnswerOf (stopOf chains (now (specified .entry)) (now (bits .entry))) ⌝ }
+    ensures meaning { λ _. ⌜ FormedMeaning chains (now (specified .entry)) (now (bits .entry)) (stopOf chains (now (specified .entry)) (now (bits .entry))) ⌝ }
 {
     stop_answer_of(stop_slice::stop_slice(chains, specified, bits))
 }

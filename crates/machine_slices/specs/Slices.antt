@@ -2,12 +2,13 @@
 --     agrees t v                       the slice v agrees with every specified bit of the test slice t
 --     shows stop v                     the slice v shows the stop slice
 --     paired specified bits            the test slices of two lists
+--     full chains v                    the slice v as a test slice that is specified at every position
 --     badSlice chains t                a test slice that is not well-formed
 --     badSlices chains specified bits  cause 4
 --     badStop chains stop              cause 5
 use mathlib.Core.Bool.{Bool, not, _||_}
 use mathlib.Core.List.{List, [], _∷_}
-use Prim.Native.Nat.{ℕ}
+use Prim.Native.Nat.{ℕ, _-_, _^_}
 use lib.Bits.{bitAnd}
 use lib.Dec.{eqb}
 use lib.ListN.{length}
@@ -26,6 +27,9 @@ unfoldable pub paired : List ℕ → List ℕ → List TestSlice
 paired [] bs = []
 paired (p ∷ ps) [] = []
 paired (p ∷ ps) (b ∷ bs) = record { specified = p; bits = b } ∷ paired ps bs
+
+abbrev pub full : ℕ → ℕ → TestSlice
+full chains v = record { specified = 2 ^ chains - 1; bits = v }
 
 -- A bit set where unspecified, or a bit of either number beyond the chains.
 unfoldable pub badSlice : ℕ → TestSlice → Bool

@@ -4,7 +4,7 @@
 --     OnSheet number          a number of the sheet: 1 to 14
 use Prim.Native.Nat.{ℕ, _≤_}
 use Rattle.refusal_causes.specs.declared.Cause.{Cause}
-use Rattle.refusal_causes.specs.declared.Cause.the-variants.{Register, Chains, Lengths, TestSlice, StopSlice, SlicesIn, NoSeed, NoCutting, NoSpace, SeedBeyond, SeedAtStop, SeedEndless, Line, Total}
+use Rattle.refusal_causes.specs.declared.Cause.the-variants.{Register, Chains, Lengths, TestSlice, StopSlice, AllTaken, NoSeed, NoCutting, NoSpace, SeedBeyond, SeedAtStop, SeedEndless, Line, Total}
 use Rattle.refusal_causes.specs.declared.Refusal.{Refusal}
 
 abbrev pub lineOf : ℕ → ℕ → Refusal
@@ -16,7 +16,7 @@ refusalOf Chains = lineOf 2 0
 refusalOf Lengths = lineOf 3 0
 refusalOf TestSlice = lineOf 4 0
 refusalOf StopSlice = lineOf 5 0
-refusalOf SlicesIn = lineOf 6 0
+refusalOf AllTaken = lineOf 6 0
 refusalOf NoSeed = lineOf 7 0
 refusalOf (NoCutting slices) = lineOf 8 slices
 refusalOf (NoSpace entries) = lineOf 9 entries

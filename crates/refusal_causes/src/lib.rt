@@ -13,8 +13,8 @@ pub enum Cause {
     TestSlice,
     // A stop slice that is not well-formed.
     StopSlice,
-    // The stop slice steps end with slices in.
-    SlicesIn,
+    // No stop slice: the fully specified slices take up all patterns.
+    AllTaken,
     // No state covers the window.
     NoSeed,
     // The set can't be cut: slices in the longest start that can be.
@@ -62,7 +62,7 @@ pub fn refusal_of(cause: Cause) -> Refusal
         Cause::Lengths => sheet_line(3, 0),
         Cause::TestSlice => sheet_line(4, 0),
         Cause::StopSlice => sheet_line(5, 0),
-        Cause::SlicesIn => sheet_line(6, 0),
+        Cause::AllTaken => sheet_line(6, 0),
         Cause::NoSeed => sheet_line(7, 0),
         Cause::NoCutting(slices) => sheet_line(8, slices),
         Cause::NoSpace(entries) => sheet_line(9, entries),

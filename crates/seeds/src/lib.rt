@@ -12,6 +12,7 @@ ghost use mathlib.Core.Path.{_≡_};
 ghost use Rattle.refusal_order.specs.Order.{judged};
 ghost use Rattle.refusal_checks.specs.Calls.{windowFaults, setFaults, cubesFaults, stopFaults, listFaults};
 ghost use Rattle.stop_slice.specs.Entry.{stopOf};
+ghost use Rattle.stop_slice.specs.Meaning.{FormedMeaning};
 ghost use Rattle.expander_meaning.specs.Expanding.{expandList};
 ghost use Rattle.theory_covering.specs.Single.{windowSeed, WindowMeaning};
 ghost use Rattle.encoder_meaning.specs.Encoding.{encodeSet};
@@ -113,7 +114,8 @@ pub extern "C" fn seeds_check_list(
 // The stop slice of a set: causes 2, 3, 4, then 6.
 #[no_mangle]
 pub extern "C" fn seeds_stop(chains: usize, specified: &[u64], bits: &[u64]) -> StopAnswer
-    ensures { λ r. ⌜ r ≡ stopAnswerOf (stopOf chains (now (specified .entry)) (now (bits .entry))) ⌝ }
+    ensures answer { λ r. ⌜ r ≡ stopAnswerOf (stopOf chains (now (specified .entry)) (now (bits .entry))) ⌝ }
+    ensures meaning { λ _. ⌜ FormedMeaning chains (now (specified .entry)) (now (bits .entry)) (stopOf chains (now (specified .entry)) (now (bits .entry))) ⌝ }
 {
     face_numbers::stop_slice(chains, specified, bits)
 }
@@ -185,7 +187,7 @@ pub extern "C" fn seeds_encode_set(
     )
 }
 
-// The stop slice of the steps and the seeds of cubes, written into the buffer: causes 1 to 4, then 6, then 8, then 9.
+// The stop slice and the seeds of cubes, written into the buffer: causes 1 to 4, then 6, then 8, then 9.
 #[no_mangle]
 pub extern "C" fn seeds_encode_cubes(
     settings: Settings,

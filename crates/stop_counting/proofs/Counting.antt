@@ -3,21 +3,18 @@
 --     rest, in-hit, in-miss, in-end  how many are in from the place i on, as a loop counts them
 --     put-fits, put-bit-fits         a position more fits a word
 -- Assumes nothing.
-use mathlib.Core.Path.{_≡_, refl}
-use mathlib.Core.Logic.{⊎-elim}
+use mathlib.Core.Path.{_≡_}
 use mathlib.Core.Bool.{true, false}
-use mathlib.Core.List.{List, [], _∷_}
+use mathlib.Core.List.{List}
 use Prim.Native.Nat.{ℕ, suc, _+_, _*_, _^_, _≤_, _<_, min}
-use native.Mathlib.Numerals.{add-one}
 use native.Mathlib.Omega.{arith}
 use lib.Bits.{bitAnd}
-use lib.ListN.{length, drop, drop-of-length-le}
-use lib.Seq.{drop-cons}
+use lib.ListN.{length, drop}
 use borrow.Author.Tests.{eq-eqb, ne-eqb}
-use Rattle.words_bounded.proofs.Tests.{lt-or-le}
 use Rattle.words_gf2.proofs.Digits.{put-below}
 use Rattle.machine_slices.specs.declared.TestSlice.{TestSlice}
-use Rattle.machine_slices.specs.Slices.{shows, paired}
+use Rattle.machine_slices.specs.Slices.{shows}
+use Rattle.machine_slices.proofs.Paired.{paired-from, paired-past}
 use Rattle.machine_slices.proofs.Causes.{sliceAt}
 use Rattle.stop_steps.specs.Steps.{filter}
 use Rattle.stop_steps.specs.Lookup.{isIn, inCount}
@@ -33,28 +30,22 @@ module _ (stop t : TestSlice) where
   unfolding isIn
   in-shows h = rw (eq-eqb (bitAnd (t .specified) (stop .specified)) (stop .specified) h)
 
-paired-none : (ps : List ℕ) → paired ps [] ≡ []
-unfolding paired
-paired-none [] = refl
-paired-none (p ∷ ps) = refl
-
 module _ (stop : TestSlice) (ps bs : List ℕ) where
   abbrev pub rest : ℕ → ℕ
   rest i = inCount stop (drop i ps) (drop i bs)
 
   module _ (i : ℕ) (h : i < min (length ps) (length bs)) where
     pub in-hit : isIn stop (sliceAt ps bs i) ≡ true → rest i ≡ suc (rest (i + 1))
-    unfolding inCount paired filter
-    in-hit t = rw (drop-cons ps i 0 (omega arith), drop-cons bs i 0 (omega arith), t, filter, add-one)
+    unfolding inCount filter
+    in-hit t = rw (paired-from ps bs i h, t, filter)
 
     pub in-miss : isIn stop (sliceAt ps bs i) ≡ false → rest i ≡ rest (i + 1)
-    unfolding inCount paired filter
-    in-miss t = rw (drop-cons ps i 0 (omega arith), drop-cons bs i 0 (omega arith), t, filter, add-one)
+    unfolding inCount filter
+    in-miss t = rw (paired-from ps bs i h, t, filter)
 
   pub in-end : (i : ℕ) → min (length ps) (length bs) ≤ i → rest i ≡ 0
-  unfolding inCount paired filter
-  in-end i h =
-      ⊎-elim (λ l. rw (drop-of-length-le bs {i = i} (omega arith), paired-none)) (λ l. rw (drop-of-length-le ps {i = i} l)) (lt-or-le i (length ps))
+  unfolding inCount filter
+  in-end i h = rw (paired-past ps bs i h)
 
 module _ (p : ℕ) (stop : TestSlice) (u : Unset p stop) where
   pub put-fits : stop .specified < 2 ^ 64 → stop .specified + 2 ^ p < 2 ^ 64

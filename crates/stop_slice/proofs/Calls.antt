@@ -1,9 +1,9 @@
 -- The whole call for a stop slice.
 --     call-refused, call-formed     its answer, by the checks
---     few-chains, some-slice        a well-formed call has at most 64 chains, and a slice
---     steps-stop, steps-refused     what its answer says of the steps
---     formed-means                  what a stop slice that it gives is good for
---     refused-means                 a well-formed call is refused only where slices are in and no position is unset
+--     few-chains                    a well-formed call has at most 64 chains
+--     lawful                        the set of a well-formed call
+--     rule-stop, rule-refused     what its answer says of the rule
+--     formed-means, formed-outcome  the answer means what it says
 -- Assumes nothing.
 use mathlib.Core.Path.{_≡_, refl, sym, ap, _∙_}
 use mathlib.Core.Option.{Option, none, some}
@@ -15,7 +15,7 @@ use Rattle.refusal_causes.specs.declared.Cause.{Cause}
 use Rattle.machine_chains.proofs.Causes.{count-within}
 use Rattle.machine_slices.specs.declared.TestSlice.{TestSlice}
 use Rattle.machine_slices.specs.Slices.{paired}
-use Rattle.machine_slices.proofs.Formed.{slices-length}
+use Rattle.machine_slices.proofs.Formed.{slices-length, slices-all}
 use Rattle.refusal_lengths.proofs.Lengths.{set-within}
 use Rattle.refusal_order.specs.Order.{judged}
 use Rattle.refusal_checks.specs.Calls.{stopFaults}
@@ -23,9 +23,11 @@ use Rattle.refusal_order.specs.declared.Verdict.{Verdict}
 use Rattle.refusal_order.proofs.Order.{NoFault, formed-well}
 use Rattle.stop_steps.specs.Steps.{stopFor}
 use Rattle.stop_slice.specs.Entry.{stopOr6, stopOf}
-use Rattle.stop_steps.specs.Meaning.{StopMeaning, SixMeaning}
+use Rattle.stop_steps.specs.Meaning.{StopMeaning, RuleMeaning}
+use Rattle.stop_slice.specs.declared.Formed.{Formed}
 use Rattle.stop_slice.specs.declared.Formed.the-variants.{Stop, Refused}
-use Rattle.stop_steps.proofs.Meaning.{stop-means, six-means}
+use Rattle.stop_steps.proofs.Meaning.{Lawful, rule-means}
+use Rattle.stop_slice.specs.Meaning.{FormedMeaning}
 use Rattle.refusal_causes.specs.declared.Cause.the-variants as cause
 use Rattle.refusal_order.specs.declared.Verdict.the-variants as verdict
 
@@ -34,9 +36,9 @@ unfolding stopOr6
 or6-stop none stop e = absurd (let z : _≡_ {A = ℕ} 0 1 = cc in omega arith)
 or6-stop (some s) stop e = ap some (let q : s ≡ stop = cc in q)
 
-or6-refused : (o : Option TestSlice) (c : Cause) → stopOr6 o ≡ Refused c → (o ≡ none) × (c ≡ cause.SlicesIn)
+or6-refused : (o : Option TestSlice) (c : Cause) → stopOr6 o ≡ Refused c → (o ≡ none) × (c ≡ cause.AllTaken)
 unfolding stopOr6
-or6-refused none c e = (refl, let q : c ≡ cause.SlicesIn = cc in q)
+or6-refused none c e = (refl, let q : c ≡ cause.AllTaken = cc in q)
 or6-refused (some s) c e = absurd (let z : _≡_ {A = ℕ} 0 1 = cc in omega arith)
 
 module _ (chains : ℕ) (specified bits : List ℕ) where
@@ -61,22 +63,40 @@ module _ (chains : ℕ) (specified bits : List ℕ) where
   unfolding stopFaults
   few-chains w = count-within chains (faultless w .chains) .1
 
-  pub some-slice : verdict-of ≡ verdict.WellFormed → 0 < length set
+  some-slice : verdict-of ≡ verdict.WellFormed → 0 < length set
   unfolding stopFaults
   some-slice w = omega (arith, set-within (length specified) (faultless w .lengths) .0, slices-length chains specified bits (faultless w .slices))
 
-  pub steps-stop : verdict-of ≡ verdict.WellFormed → (stop : TestSlice) → stopOf chains specified bits ≡ Stop stop → stopFor chains set ≡ some stop
-  steps-stop w stop e = or6-stop (stopFor chains set) stop (sym (call-formed w) ∙ e)
+  pub lawful : verdict-of ≡ verdict.WellFormed → Lawful chains set
+  unfolding stopFaults
+  lawful w = record { some-chain = count-within chains (faultless w .chains) .0; some-slice = some-slice w; formed = slices-all chains specified bits (faultless w .slices) }
 
-  pub steps-refused : verdict-of ≡ verdict.WellFormed → (c : Cause) → stopOf chains specified bits ≡ Refused c → (stopFor chains set ≡ none) × (c ≡ cause.SlicesIn)
-  steps-refused w c e = or6-refused (stopFor chains set) c (sym (call-formed w) ∙ e)
+  pub rule-stop : verdict-of ≡ verdict.WellFormed → (stop : TestSlice) → stopOf chains specified bits ≡ Stop stop → stopFor chains set ≡ some stop
+  rule-stop w stop e = or6-stop (stopFor chains set) stop (sym (call-formed w) ∙ e)
 
-  pub formed-means : (stop : TestSlice) → stopOf chains specified bits ≡ Stop stop → StopMeaning chains set stop
-  formed-means stop e = go verdict-of refl
+  pub rule-refused : verdict-of ≡ verdict.WellFormed → (c : Cause) → stopOf chains specified bits ≡ Refused c → (stopFor chains set ≡ none) × (c ≡ cause.AllTaken)
+  rule-refused w c e = or6-refused (stopFor chains set) c (sym (call-formed w) ∙ e)
+
+  rule : verdict-of ≡ verdict.WellFormed → RuleMeaning chains set (stopFor chains set)
+  rule w = rule-means chains set (lawful w)
+
+  good : (stop : TestSlice) → stopOf chains specified bits ≡ Stop stop → StopMeaning chains set stop
+  good stop e = go verdict-of refl
     where
       go : (v : Verdict) → verdict-of ≡ v → StopMeaning chains set stop
       go (verdict.Refused c) w = absurd (let f = call-refused c w in let z : _≡_ {A = ℕ} 0 1 = cc in omega arith)
-      go verdict.WellFormed w = stop-means chains set stop (some-slice w) (steps-stop w stop e)
+      go verdict.WellFormed w = rule w .good stop (rule-stop w stop e)
 
-  pub refused-means : (c : Cause) → verdict-of ≡ verdict.WellFormed → stopOf chains specified bits ≡ Refused c → SixMeaning chains set
-  refused-means c w e = six-means chains set (steps-refused w c e .0)
+  pub formed-means : FormedMeaning chains specified bits (stopOf chains specified bits)
+  unfolding stopOr6
+  formed-means = record {
+    unformed = call-refused;
+    decided = λ w stop e. call-formed w ∙ ap stopOr6 (rule w .decided stop e);
+    good = good;
+    six = λ w c e. (let q = rule-refused w c e in (q .1, rule w .six (q .0)));
+    exactly = λ w. ((λ e. rule w .exactly .0 (rule-refused w cause.AllTaken e .0)), λ n. call-formed w ∙ ap stopOr6 (rule w .exactly .1 n));
+  }
+
+  -- an answer that is the definition's, with its meaning
+  pub formed-outcome : (r : Formed) → r ≡ stopOf chains specified bits → (r ≡ stopOf chains specified bits) × FormedMeaning chains specified bits r
+  formed-outcome r e = (e, rw e formed-means)

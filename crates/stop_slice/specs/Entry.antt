@@ -15,7 +15,7 @@ use Rattle.stop_slice.specs.declared.Formed.{Formed}
 use Rattle.stop_slice.specs.declared.Formed.the-variants.{Stop, Refused}
 
 unfoldable pub stopOr6 : Option TestSlice → Formed
-stopOr6 none = Refused cause.SlicesIn
+stopOr6 none = Refused cause.AllTaken
 stopOr6 (some stop) = Stop stop
 
 unfoldable pub stopOf : ℕ → List ℕ → List ℕ → Formed

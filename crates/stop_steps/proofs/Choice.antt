@@ -1,4 +1,5 @@
 -- The choice of a step is document 01's: the greatest count, on a tie the leftmost position, and there the 0s before the 1s.
+--     bits-apart                 a slice has one bit at a position
 --     none-counted-left          no slice that stays in has the counted bit
 --     Chosen stop counts n q     of the choices below n at unset positions, q has the greatest count, and each lower one has less
 --     ChoiceIs, choice-is        the choice is so, or every position is set
@@ -41,7 +42,7 @@ filter-apart p r apart (x ∷ xs) = go (p x) refl (filter-apart p r apart xs)
     go false e ih = ih
 
 -- the two bits of a position are apart
-bits-apart : (p b : ℕ) (x : TestSlice) → b < 2 → has p (1 - b) x ≡ true → has p b x ≡ false
+pub bits-apart : (p b : ℕ) (x : TestSlice) → b < 2 → has p (1 - b) x ≡ true → has p b x ≡ false
 bits-apart p b x l t =
     let a = both (eqb (digit (x .specified) p) 1) (eqb (digit (x .bits) p) (1 - b)) t in
     let d = eqb-true (digit (x .bits) p) (1 - b) (a .1) in

@@ -3,14 +3,16 @@
 --     filter-filter     one test after another
 --     filter-all        a test that every slice passes
 --     filter-empty      where nothing is left, no member passes
+--     filter-parts      of two tests that no slice passes both, what they leave is together no more than there was
 -- Assumes nothing.
 use mathlib.Core.Path.{_≡_, refl, ap, ap₂}
 use mathlib.Core.Bool.{Bool, true, false, _&&_}
 use mathlib.Core.List.{List, [], _∷_}
-use Prim.Native.Nat.{ℕ, zero, suc, _<_}
+use Prim.Native.Nat.{ℕ, zero, suc, _+_, _≤_, _<_}
 use native.Mathlib.Nat.{not-suc-le-zero, le-of-suc-le-suc}
 use native.Mathlib.Omega.{arith}
 use lib.ListN.{length, getD}
+use Rattle.words_bounded.proofs.Tests.{clash}
 use Rattle.machine_slices.specs.declared.TestSlice.{TestSlice}
 use Rattle.stop_steps.specs.Steps.{filter}
 
@@ -46,3 +48,14 @@ filter-empty p (x ∷ xs) e i d h = go (p x) refl e i h (λ e k l. filter-empty 
     go true t e i h ih = absurd (let z : _≡_ {A = ℕ} (suc (length (filter p xs))) 0 = ap length e in omega arith)
     go false t e zero h ih = t
     go false t e (suc i) h ih = ih e i (le-of-suc-le-suc h)
+
+pub filter-parts : (p r : TestSlice → Bool) → ((x : TestSlice) → p x ≡ true → r x ≡ false) → (xs : List TestSlice) → length (filter p xs) + length (filter r xs) ≤ length xs
+unfolding filter
+filter-parts p r apart [] = omega arith
+filter-parts p r apart (x ∷ xs) = go (p x) (r x) refl refl (filter-parts p r apart xs)
+  where
+    go : (b c : Bool) → p x ≡ b → r x ≡ c → length (filter p xs) + length (filter r xs) ≤ length xs → length (picked x b (filter p xs)) + length (picked x c (filter r xs)) ≤ length (x ∷ xs)
+    go true true e f ih = absurd (clash (r x) f (apart x e))
+    go true false e f ih = omega arith
+    go false true e f ih = omega arith
+    go false false e f ih = omega arith

@@ -1,15 +1,21 @@
--- What the stop slice of a set is good for, and what refusal 6 says (document 01, "Stop slice steps").
+-- What the stop slice of a set is good for, where the steps end with slices in, and what refusal 6 says (document 01, "Stop slice steps"; document 02, R-1).
 --     AllSet chains stop        no position of the stop slice is unset
 --     StopMeaning chains set stop     of a stop slice: it is well-formed, it has a specified position, and no test slice has all its bits
---     SixMeaning chains set     of refusal 6: slices are in, and no position is unset
+--     NoneGood chains set       no stop slice is so
+--     LeftIn chains set         of steps that end with slices in: no position is unset, and there are at least as many slices as patterns
+--     SixMeaning chains set     of refusal 6: the fully specified slices take up all patterns, and no stop slice is good
+--     RuleMeaning chains set answer     of the rule for a stop slice: the steps decide or else the spare pattern, a stop slice is good, and there is none exactly where none is good
 use mathlib.Core.Path.{_≡_}
 use mathlib.Core.Bool.{true, false}
 use mathlib.Core.List.{List}
-use Prim.Native.Nat.{ℕ, _<_}
+use mathlib.Core.Logic.{_↔_}
+use mathlib.Core.Option.{Option, none, some}
+use Prim.Native.Nat.{ℕ, _^_, _≤_, _<_}
 use lib.ListN.{length, getD}
 use Rattle.machine_slices.specs.declared.TestSlice.{TestSlice}
 use Rattle.machine_slices.specs.Slices.{badStop}
-use Rattle.stop_steps.specs.Steps.{isSet, isEmpty, stage}
+use Rattle.stop_spare.specs.Spare.{taken, spareStop}
+use Rattle.stop_steps.specs.Steps.{isSet, isEmpty, stage, steps}
 use Rattle.stop_steps.specs.Lookup.{HasAll}
 
 abbrev pub AllSet : ℕ → TestSlice → Type 0
@@ -20,6 +26,22 @@ pub record StopMeaning (chains : ℕ) (set : List TestSlice) (stop : TestSlice) 
   pub specified : 0 < stop .specified
   pub none-has : (i : ℕ) (d : TestSlice) → i < length set → HasAll stop (getD set i d) → ⊥
 
-pub record SixMeaning (chains : ℕ) (set : List TestSlice) : Type 0 where
+abbrev pub NoneGood : ℕ → List TestSlice → Type 0
+NoneGood chains set = (stop : TestSlice) → StopMeaning chains set stop → ⊥
+
+-- So the spare pattern is sought among no more candidates than there are slices, and never for more chains than a set can fill.
+pub record LeftIn (chains : ℕ) (set : List TestSlice) : Type 0 where
   pub slices-in : isEmpty (stage chains set chains .left) ≡ false
   pub all-set : AllSet chains (stage chains set chains .stop)
+  pub few : 2 ^ chains ≤ length set
+
+pub record SixMeaning (chains : ℕ) (set : List TestSlice) : Type 0 where
+  pub all-taken : (v : ℕ) → v < 2 ^ chains → taken chains set v ≡ true
+  pub none-good : NoneGood chains set
+
+pub record RuleMeaning (chains : ℕ) (set : List TestSlice) (answer : Option TestSlice) : Type 0 where
+  pub decided : (stop : TestSlice) → steps chains set ≡ some stop → answer ≡ some stop
+  pub spared : steps chains set ≡ none → LeftIn chains set × (answer ≡ spareStop chains set)
+  pub good : (stop : TestSlice) → answer ≡ some stop → StopMeaning chains set stop
+  pub six : answer ≡ none → SixMeaning chains set
+  pub exactly : (answer ≡ none) ↔ NoneGood chains set

@@ -1,4 +1,4 @@
--- The stop slice steps (document 01, "Stop slice steps", after document 004, III.A). Positions count from the left, from 0: position p has weight 2 ^ p.
+-- The stop slice of a set: the steps (document 01, "Stop slice steps", after document 004, III.A) or, where they end with slices in, the spare pattern (document 02, R-1). Positions count from the left, from 0: position p has weight 2 ^ p.
 --     has p b t             the test slice t has the bit b at position p
 --     isSet p stop          position p of the stop slice is set
 --     filter p xs           the members of a list that pass a test, in order
@@ -14,7 +14,8 @@
 --     advance chains g      the stage after one step more
 --     stage chains set k    the stage after k steps
 --     ended g               the stop slice when the steps have ended, or none where slices are in
---     stopFor chains set    the stop slice of a set
+--     steps chains set      the stop slice that the steps give
+--     stopFor chains set    the stop slice of a set: that of the steps, or else the spare pattern
 use mathlib.Core.Bool.{Bool, true, false, _&&_}
 use mathlib.Core.Option.{Option, none, some}
 use mathlib.Core.List.{List, [], _∷_}
@@ -23,6 +24,7 @@ use lib.Dec.{ltb, eqb}
 use lib.ListN.{length}
 use Rattle.words_gf2.specs.Words.{digit}
 use Rattle.machine_slices.specs.declared.TestSlice.{TestSlice}
+use Rattle.stop_spare.specs.Spare.{spareStop}
 
 abbrev pub has : ℕ → ℕ → TestSlice → Bool
 has p b t = eqb (digit (t .specified) p) 1 && eqb (digit (t .bits) p) b
@@ -81,10 +83,13 @@ unfoldable pub stage : ℕ → List TestSlice → ℕ → Stage
 stage chains set zero = start set
 stage chains set (suc k) = advance chains (stage chains set k)
 
--- If slices are in at the end, there is no stop slice.
+-- If slices are in at the end, the steps give no stop slice.
 unfoldable pub ended : Stage → Option TestSlice
 ended g = elim (isEmpty (g .left)) [ true ↦ some (g .stop) | false ↦ none ]
 
 -- Each step sets a position, so there are at most as many steps as chains.
+unfoldable pub steps : ℕ → List TestSlice → Option TestSlice
+steps chains set = ended (stage chains set chains)
+
 unfoldable pub stopFor : ℕ → List TestSlice → Option TestSlice
-stopFor chains set = ended (stage chains set chains)
+stopFor chains set = elim (steps chains set) [ some stop ↦ some stop | none ↦ spareStop chains set ]

@@ -8,7 +8,7 @@ use mathlib.Core.List.{List}
 use Prim.Native.Nat.{ℕ, _≤_}
 use native.Mathlib.Omega.{arith}
 use lib.ListN.{length, take, length-take}
-use Rattle.refusal_causes.specs.declared.Cause.the-variants.{SlicesIn}
+use Rattle.refusal_causes.specs.declared.Cause.the-variants.{AllTaken}
 use Rattle.refusal_causes.specs.Outcome.{refuse}
 use Rattle.refusal_causes.proofs.Outcome.{fill-long}
 use Rattle.machine_settings.specs.declared.Settings.{Settings}
@@ -38,7 +38,7 @@ plan-long M R set out (stuck g) = refl
 plan-long M R set out (done es) = fill-long _ out
 
 stopped-long : (g : Settings) (masks specified bits out : List ℕ) (o : Option TestSlice) → length ((elim o as (λ _. CubesOutcome) [
-  | none ↦ record { answer = encodings.Refused SlicesIn; buffer = out }
+  | none ↦ record { answer = encodings.Refused AllTaken; buffer = out }
   | some stop ↦ withStop stop (encoding (machine g masks) (rules g stop) (paired specified bits) out)
 ]) .buffer) ≡ length out
 unfolding withStop encoding

@@ -1,8 +1,8 @@
 -- What the reply to a sheet means (`sheet-means`): the meaning of the encoding of cubes, which is lent as many entries as there can be slices, so that 9 does not come.
 -- Assumes nothing.
-use mathlib.Core.Path.{_≡_, sym, ap, _∙_}
+use mathlib.Core.Path.{_≡_, refl, sym, ap, _∙_}
 use mathlib.Core.Logic.{inl, inr, ⊎-elim}
-use mathlib.Core.Option.{some}
+use mathlib.Core.Option.{Option, none, some}
 use mathlib.Core.List.{List, [], _∷_, _++_, append-assoc}
 use Prim.Native.Nat.{ℕ, _≤_}
 use native.Mathlib.Omega.{arith}
@@ -28,6 +28,7 @@ use Rattle.theory_covering.specs.Rules.{rules}
 use Rattle.theory_covering.specs.Windows.{CoveredBy, ok}
 use Rattle.theory_covering.proofs.Windows.{set-bounds}
 use Rattle.stop_steps.specs.Steps.{stopFor}
+use Rattle.stop_steps.specs.Meaning.{NoneGood}
 use Rattle.encoder_meaning.specs.Meaning.{Listed, Meaning}
 use Rattle.encoder_meaning.proofs.Seeds.{covering-cuts}
 use Rattle.encoder_cubes.specs.Cubes.{CubesOutcome, stopped, withStop, encodeCubes}
@@ -52,7 +53,7 @@ use Rattle.text_write_list.specs.SeedList.{headText, listText}
 use Rattle.text_spelling.proofs.Head.{head-spelt}
 use Rattle.text_roundtrip.specs.RoundTrip.{sheetOf, setOf, Quoted}
 use Rattle.text_roundtrip.proofs.Whole.{quoted, round-trip}
-use Rattle.text_meaning.specs.Sheets.{ReadThrough, machineIn, rulesIn, Repeats, StoppedSheet, SheetMeaning}
+use Rattle.text_meaning.specs.Sheets.{ReadThrough, machineIn, rulesIn, Repeats, StoppedSheet, SheetMeaning, sheetFaults}
 use Rattle.text_meaning.proofs.Stops.{stops-at, line-refused}
 
 refused-is : (c d : Refusal) → refused c ≡ refused d → c ≡ d
@@ -151,9 +152,9 @@ module _ (s : List ℕ) where
           (stopped-at ++ others, q .printed ∙ ap (λ x. headText g masks ++ x) (append-assoc (name key.Stop) stopped-at others) ∙ ap (λ h. h ++ (name key.Stop ++ (stopped-at ++ others))) (sym (head-spelt s read)))
 
       stopped-means : stopFor (length masks) (setOf s) ≡ some stop → StoppedSheet s stop (encodeReply s)
-      stopped-means steps = record {
+      stopped-means its = record {
         answered = ⊎-elim (λ q. inl (listed-reply (q .0) (q .1))) (⊎-elim (λ q. inr (q .0, refused-reply _ (q .1))) (λ q. absurd (spacious (q .0) (q .1)))) (meaning .answered);
-        accepted = λ list n e. (let q = quoted s list n stop steps e in (q, round-trip s list n e, repeats list n q));
+        accepted = λ list n e. (let q = quoted s list n stop its e in (q, round-trip s list n e, repeats list n q));
         uncut = λ k e. meaning .uncut k (uncut-reply k e) .0;
         exactly = ((λ q. meaning .exactly .0 (q .0, uncut-reply (q .0) (q .1))), λ h. (let q = meaning .exactly .1 h in (q .0, refused-reply _ (q .1))));
       }
@@ -162,10 +163,25 @@ module _ (s : List ℕ) where
   answer-refused : (c : Cause) → o ≡ record { answer = encodings.Refused c; buffer = lent } → o .answer ≡ encodings.Refused c
   answer-refused c e = ap (λ (x : CubesOutcome). x .answer) e
 
+  -- With a stop slice, the reply is a list or 8.
+  six-only : (read : ReadThrough Sheet s) → judged (sheetFaults s) ≡ verdict.WellFormed → encodeReply s ≡ refused (refusalOf cause.AllTaken) → NoneGood (length masks) (setOf s)
+  six-only read w six = go (stopFor (length masks) (setOf s)) refl
+    where
+      numbers : (c : Cause) → encodeReply s ≡ refused (refusalOf c) → refusalOf c .number ≡ 6
+      numbers c e = ap (λ (r : Refusal). r .number) (refused-is (refusalOf c) (refusalOf cause.AllTaken) (sym e ∙ six))
+
+      go : (o : Option TestSlice) → stopFor (length masks) (setOf s) ≡ o → NoneGood (length masks) (setOf s)
+      go none e = cubes-means g masks ps bs lent depth .unstopped w e .1 .none-good
+      go (some stop) e = absurd (⊎-elim
+          (λ q. text-refused _ _ _ (sym (q .1 .1) ∙ six))
+          (λ q. (let n = numbers (cause.NoCutting (q .0)) (q .1) in omega arith))
+          (stopped-means read stop (cubes-means g masks ps bs lent depth .stopped w stop e) e .answered))
+
   pub sheet-means : SheetMeaning s (encodeReply s)
   sheet-means = record {
     line = λ c e. (stops-at Sheet c s e, line-refused Sheet c s e);
     unformed = λ read c w. reply-refused read c (answer-refused c (cubes-means g masks ps bs lent depth .refused c w));
-    unstopped = λ read w n. (let u = cubes-means g masks ps bs lent depth .unstopped w n in (reply-refused read cause.SlicesIn (answer-refused cause.SlicesIn (u .0)), u .1));
+    unstopped = λ read w n. (let u = cubes-means g masks ps bs lent depth .unstopped w n in (reply-refused read cause.AllTaken (answer-refused cause.AllTaken (u .0)), u .1));
+    exactly = λ read w. (six-only read w, λ n. reply-refused read cause.AllTaken (answer-refused cause.AllTaken (cubes-means g masks ps bs lent depth .exactly w .1 n)));
     stopped = λ read w stop e. stopped-means read stop (cubes-means g masks ps bs lent depth .stopped w stop e) e;
   }

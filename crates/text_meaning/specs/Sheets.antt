@@ -4,7 +4,7 @@
 --     sheetFaults s              which of causes 1 to 4 hold over the whole sheet
 --     machineIn s, rulesIn s stop     the machine and the rules of the sheet
 --     Repeats s list             the list has every line of the sheet s that stands before depth, byte for byte, and then its stop line
---     StoppedSheet s stop r      what the reply r says of a sheet for which the steps give the stop slice
+--     StoppedSheet s stop r      what the reply r says of a sheet whose set has the stop slice
 --     SheetMeaning s r           what the reply r says of the sheet s
 use mathlib.Core.Path.{_≡_}
 use mathlib.Core.Logic.{_↔_, _⊎_}
@@ -23,7 +23,7 @@ use Rattle.refusal_checks.specs.Calls.{cubesFaults}
 use Rattle.machine_settings.specs.Machine.{Machine, machine}
 use Rattle.machine_slices.specs.declared.TestSlice.{TestSlice}
 use Rattle.stop_steps.specs.Steps.{stopFor}
-use Rattle.stop_steps.specs.Meaning.{SixMeaning}
+use Rattle.stop_steps.specs.Meaning.{NoneGood, SixMeaning}
 use Rattle.theory_cutting.specs.Cutting.{Cutting}
 use Rattle.theory_covering.specs.Rules.{Rules, rules}
 use Rattle.theory_covering.specs.Windows.{Window}
@@ -71,11 +71,12 @@ pub record StoppedSheet (s : List ℕ) (stop : TestSlice) (r : Reply) : Type 0 w
   -- refused by 8 exactly when the set that the sheet says has no cutting
   pub exactly : ((g : ℕ) × (r ≡ refused (refusalOf (cause.NoCutting g)))) ↔ ((es : List ℕ) → Cutting (Window (machineIn s) (rulesIn s stop) (setOf s)) 0 es (length (setOf s)) → ⊥)
 
--- The first refused line; then the first of causes 1 to 4 that holds over the whole; then 6 exactly where the steps end with slices in; otherwise the stop slice of the steps, and the list or 8.
+-- The first refused line; then the first of causes 1 to 4 that holds over the whole; then 6 exactly where no stop slice is good for the set; otherwise its stop slice, and the list or 8.
 pub record SheetMeaning (s : List ℕ) (r : Reply) : Type 0 where
   pub line : (c : Refusal) → readingOf Sheet s .end ≡ scanned.Refused c → StopsAt Sheet s c × (r ≡ refused c)
   pub unformed : ReadThrough Sheet s → (c : Cause) → judged (sheetFaults s) ≡ verdict.Refused c → r ≡ refused (refusalOf c)
   pub unstopped : ReadThrough Sheet s → judged (sheetFaults s) ≡ verdict.WellFormed → stopFor (length (masksOf (sheetOf s))) (setOf s) ≡ none
-      → (r ≡ refused (refusalOf cause.SlicesIn)) × SixMeaning (length (masksOf (sheetOf s))) (setOf s)
+      → (r ≡ refused (refusalOf cause.AllTaken)) × SixMeaning (length (masksOf (sheetOf s))) (setOf s)
+  pub exactly : ReadThrough Sheet s → judged (sheetFaults s) ≡ verdict.WellFormed → (r ≡ refused (refusalOf cause.AllTaken)) ↔ NoneGood (length (masksOf (sheetOf s))) (setOf s)
   pub stopped : ReadThrough Sheet s → judged (sheetFaults s) ≡ verdict.WellFormed → (stop : TestSlice) → stopFor (length (masksOf (sheetOf s))) (setOf s) ≡ some stop
       → StoppedSheet s stop r

@@ -58,7 +58,7 @@ covering-words M R set h (state {s = s} c w) = rw (beyond-no 64 s (le-trans (c .
 
 pub record Accepted (g : Settings) (masks specified bits out : List ℕ) (stop : TestSlice) (n : ℕ) (buffer : List ℕ) : Type 0 where
   pub formed : judged (setFaults g masks stop specified bits) ≡ verdict.WellFormed
-  pub steps : stopFor (length masks) (paired specified bits) ≡ some stop
+  pub stopped : stopFor (length masks) (paired specified bits) ≡ some stop
   pub shortest : Shortest (machine g masks) (rules g stop) (paired specified bits) (take n buffer)
   pub count : length (take n buffer) ≡ n
   pub words : any (beyond 64) (take n buffer) ≡ false
@@ -75,7 +75,7 @@ module _ (g : Settings) (masks : List ℕ) (depth : ℕ) (ps bs out : List ℕ) 
       let t : take n (h .buffer) ≡ l .seeds = ap (take n) (m .meaning f .accepted n e .1) ∙ ap (λ k. take k (l .seeds ++ drop n out)) (sym (l .count)) ∙ take-append-seam (l .seeds) (drop n out) in
       record {
         formed = f;
-        steps = z;
+        stopped = z;
         shortest = rw t (l .shortest);
         count = ap length t ∙ l .count;
         words = ap (any (beyond 64)) t ∙ covering-words (machine g masks) (rules g stop) (paired ps bs) (pow-mono {i = g .cells} {j = 64} (cells-within (g .cells) (g .taps) (set-formed g masks stop ps bs f .register) .1)) (l .shortest .covers);

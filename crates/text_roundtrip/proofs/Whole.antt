@@ -1,5 +1,5 @@
 -- What the list that is printed for an accepted sheet is worth.
---     quoted         it has the stop slice of the steps and as many seeds as the answer says, and no covering list is shorter
+--     quoted         it has the stop slice of the sheet and as many seeds as the answer says, and no covering list is shorter
 --     round-trip     read back and expanded, it gives as many slices as the sheet has, each agreeing with the sheet's
 -- Assumes nothing.
 use mathlib.Core.Path.{_≡_, refl, sym, ap, _∙_}
@@ -118,17 +118,17 @@ module _ (s : List ℕ) where
     given-back (encodings.Seeds stop m) q e = rw (← (text-is _ list m n e)) (seeds-give-back stop m q)
     given-back (encodings.Refused c) q e = absurd (refused-text _ list n e)
 
-    module _ (stop : TestSlice) (steps : stopFor (length masks) (paired ps bs) ≡ some stop) where
+    module _ (stop : TestSlice) (its : stopFor (length masks) (paired ps bs) ≡ some stop) where
       seeds-quoted : (st : TestSlice) (m : ℕ) → o .answer ≡ encodings.Seeds st m → listText (base cells taps) masks st (length ps) (take m (o .buffer)) ≡ list → m ≡ n → Quoted s st list n
       seeds-quoted st m q t k =
           let a = cubes-accepted (base cells taps) masks _ ps bs lent st m q in
-          record { seeds = take m (o .buffer); printed = sym t; count = a .count ∙ k; steps = a .steps; shortest = a .shortest }
+          record { seeds = take m (o .buffer); printed = sym t; count = a .count ∙ k; stopped = a .stopped; shortest = a .shortest }
 
       list-quoted : (a : Encoded) → o .answer ≡ a → listReply (base cells taps) masks (length ps) (o .buffer) a ≡ text list n → Quoted s stop list n
       unfolding listReply
       list-quoted (encodings.Seeds st m) q e =
           let a = cubes-accepted (base cells taps) masks _ ps bs lent st m q in
-          rw (← (some-is st stop (sym (a .steps) ∙ steps))) (seeds-quoted st m q (text-is _ list m n e) (count-is _ list m n e))
+          rw (← (some-is st stop (sym (a .stopped) ∙ its))) (seeds-quoted st m q (text-is _ list m n e) (count-is _ list m n e))
       list-quoted (encodings.Refused c) q e = absurd (refused-text _ list n e)
 
       pub quoted : encodeReply s ≡ text list n → Quoted s stop list n

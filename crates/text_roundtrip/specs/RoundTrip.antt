@@ -1,7 +1,7 @@
 -- From a sheet to its seed list and back to slices (document 01, "Sheet and seed list"; demand 2).
 --     sheetOf s           the entries of the sheet s
 --     setOf s             its test slices
---     Quoted s stop list n     the list is that of the sheet s with this stop slice, which is that of the steps, and n seeds, than which no covering list is shorter
+--     Quoted s stop list n     the list is that of the sheet s with its stop slice and n seeds, than which no covering list is shorter
 --     GivesBack s list    expanding the list is accepted with as many slices as the sheet s has, and slice i agrees with slice line i
 use mathlib.Core.Path.{_≡_}
 use mathlib.Core.Bool.{true}
@@ -35,7 +35,7 @@ pub record Quoted (s : List ℕ) (stop : TestSlice) (list : List ℕ) (n : ℕ) 
   pub seeds : List ℕ
   pub printed : list ≡ listText (settingsOf (sheetOf s)) (masksOf (sheetOf s)) stop (length (specifiedOf (sheetOf s))) seeds
   pub count : length seeds ≡ n
-  pub steps : stopFor (length (masksOf (sheetOf s))) (setOf s) ≡ some stop
+  pub stopped : stopFor (length (masksOf (sheetOf s))) (setOf s) ≡ some stop
   pub shortest : Shortest (machine (settingsOf (sheetOf s)) (masksOf (sheetOf s))) (rules (settingsOf (sheetOf s)) stop) (setOf s) seeds
 
 pub record GivesBack (s list : List ℕ) : Type 0 where

@@ -13,7 +13,8 @@ use native.Mathlib.Nat.{mul-le-mul}
 use Rattle.text_keys.specs.Bytes.{bytes}
 use Rattle.text_keys.specs.Keys.{rows, rowAt, name}
 use Rattle.text_write_characters.specs.Characters.{sliceLine}
-use Rattle.text_write_slices.specs.Slices.{sliceLines, full}
+use Rattle.machine_slices.specs.Slices.{full}
+use Rattle.text_write_slices.specs.Slices.{sliceLines}
 use Rattle.text_write_characters.proofs.Characters.{slice-length}
 
 module _ (n : ℕ) (vs : List ℕ) (i : ℕ) where

@@ -3,16 +3,20 @@
 --     any-miss     it does not: what is left after it decides
 --     any-end      nothing is left
 --     any-take, any-drop     where no member passes, none of the first and none of the last does
+--     any-at, any-place      where no member passes, that at a place does not; where some does, there is a place where it stands
 -- Assumes nothing.
 use mathlib.Core.Path.{_≡_, refl}
 use mathlib.Core.Bool.{Bool, true, false}
 use mathlib.Core.List.{List, [], _∷_}
+use mathlib.Core.Logic.{⊎-elim}
 use Prim.Native.Nat.{ℕ, zero, suc, _+_, _≤_, _<_}
+use native.Mathlib.Nat.{not-suc-le-zero, le-of-suc-le-suc}
 use native.Mathlib.Numerals.{add-one}
+use native.Mathlib.Omega.{arith}
 use lib.ListN.{length, getD, take, drop, drop-of-length-le}
 use lib.Seq.{drop-cons}
 use Rattle.words_bounded.specs.Bounded.{any}
-use Rattle.words_bounded.proofs.Tests.{neither}
+use Rattle.words_bounded.proofs.Tests.{clash, neither, either}
 
 module _ {ℓ} {A : Type ℓ} (p : A → Bool) (l : List A) (d : A) where
   pub any-hit : (i : ℕ) → i < length l → p (getD l i d) ≡ true → any p (drop i l) ≡ true
@@ -39,3 +43,14 @@ module _ {ℓ} {A : Type ℓ} (p : A → Bool) where
   any-drop zero l h = h
   any-drop (suc k) [] h = h
   any-drop (suc k) (x ∷ l) h = any-drop k l (neither (p x) (any p l) h .1)
+
+  pub any-at : (l : List A) → any p l ≡ false → (i : ℕ) (d : A) → i < length l → p (getD l i d) ≡ false
+  unfolding any
+  any-at [] h i d b = absurd (not-suc-le-zero b)
+  any-at (x ∷ l) h zero d b = neither (p x) (any p l) h .0
+  any-at (x ∷ l) h (suc i) d b = any-at l (neither (p x) (any p l) h .1) i d (le-of-suc-le-suc b)
+
+  pub any-place : (l : List A) (d : A) → any p l ≡ true → (i : ℕ) × ((i < length l) × (p (getD l i d) ≡ true))
+  unfolding any
+  any-place [] d t = absurd (clash false t refl)
+  any-place (x ∷ l) d t = ⊎-elim (λ here. (0, (omega arith, here))) (λ there. (let q = any-place l d there in (suc (q .0), (omega (arith, q .1 .0), q .1 .1)))) (either (p x) (any p l) t)

@@ -4,7 +4,7 @@ use lib.ListN.{length}
 use borrow.Author.Needs.{needs}
 use Rattle.encoder_cubes.specs.Cubes.{CubesOutcome, stopped, withStop}
 use Rattle.encoder_meaning.specs.declared.Encoded.the-variants.{Refused}
-use Rattle.stop_slice.proofs.Calls.{steps-refused, steps-stop}
+use Rattle.stop_slice.proofs.Calls.{rule-refused, rule-stop}
 use Rattle.encoder_cubes.proofs.Formed.{cubes-stop}
 use Rattle.encoder_cubes.proofs.Cubes.{stop-set, cubes-unstopped, cubes-stopped}
 use Rattle.encoder_cubes.proofs.encode_formed.Statement.{statement}
@@ -15,7 +15,7 @@ encode-requires c κs =
     let s = c .before .before .before .before .before .before .before .before .before in
     let a = s .args in
     let k = c .before .before .before .before .stop-slice in
-    let e = steps-stop (length (a .masks .now)) (a .specified .now) (a .bits .now) (cubes-stop (a .settings) (a .masks .now) (a .specified .now) (a .bits .now) (s .pre)) _ (sym (k .ensures) ∙ c .before .before .formed2 .given .1) in
+    let e = rule-stop (length (a .masks .now)) (a .specified .now) (a .bits .now) (cubes-stop (a .settings) (a .masks .now) (a .specified .now) (a .bits .now) (s .pre)) _ (sym (k .ensures .0) ∙ c .before .before .formed2 .given .1) in
     stop-set (a .settings) (a .masks .now) (a .specified .now) (a .bits .now) (s .pre) _ e
 
 returns : tie.Need-returns
@@ -23,7 +23,7 @@ returns c =
     let s = c .before .before .before .before .before .before .before .before in
     let a = s .args in
     let k = c .before .before .before .stop-slice in
-    let e = steps-refused (length (a .masks .now)) (a .specified .now) (a .bits .now) (cubes-stop (a .settings) (a .masks .now) (a .specified .now) (a .bits .now) (s .pre)) _ (sym (k .ensures) ∙ c .before .formed .given .1) in
+    let e = rule-refused (length (a .masks .now)) (a .specified .now) (a .bits .now) (cubes-stop (a .settings) (a .masks .now) (a .specified .now) (a .bits .now) (s .pre)) _ (sym (k .ensures .0) ∙ c .before .formed .given .1) in
     let o = cubes-unstopped (a .settings) (a .masks .now) (a .specified .now) (a .bits .now) (a .out .now) (e .0) in
     (ap Refused (e .1) ∙ sym (ap (λ (u : CubesOutcome). u .answer) o), sym (ap (λ (u : CubesOutcome). u .buffer) o))
 
@@ -34,7 +34,7 @@ returns-2 c =
     let a = s .args in
     let k = c .before .before .before .before .before .before .before .before .stop-slice in
     let t = c .before .before .before .encode in
-    let e = steps-stop (length (a .masks .now)) (a .specified .now) (a .bits .now) (cubes-stop (a .settings) (a .masks .now) (a .specified .now) (a .bits .now) (s .pre)) _ (sym (k .ensures) ∙ c .before .before .before .before .before .before .formed2 .given .1) in
+    let e = rule-stop (length (a .masks .now)) (a .specified .now) (a .bits .now) (cubes-stop (a .settings) (a .masks .now) (a .specified .now) (a .bits .now) (s .pre)) _ (sym (k .ensures .0) ∙ c .before .before .before .before .before .before .formed2 .given .1) in
     let o = cubes-stopped (a .settings) (a .masks .now) (a .specified .now) (a .bits .now) (a .out .now) _ e in
     (c .with-stop .ensures ∙ ap (stopped _) (t .ensures .0) ∙ sym (ap (λ (u : CubesOutcome). u .answer) o), t .ensures .1 ∙ sym (ap (λ (u : CubesOutcome). u .buffer) o))
 

@@ -7,7 +7,7 @@ use Rattle.machine_slices.specs.declared.TestSlice.{TestSlice}
 use Rattle.machine_slices.specs.Slices.{paired}
 use Rattle.stop_steps.specs.Steps.{stage}
 use Rattle.stop_slice.specs.Choosing.{nextOf}
-use Rattle.stop_slice.proofs.OneStep.{stage-specified, next-stage, form-stop, form-six}
+use Rattle.stop_slice.proofs.OneStep.{stage-specified, next-stage, form-stop, form-few, form-spared}
 use Rattle.stop_slice.proofs.form.Statement.{statement}
 use Rattle.stop_slice.proofs.form.Tie as tie
 
@@ -38,10 +38,15 @@ returns c =
     let l = c .before .before .before .loop in
     form-stop _ _ _ (l .stop) (l .steps) (l .inv .1) (omega arith) (sym (c .before .count-in .ensures) ∙ c .if1 .taken)
 
+spared-requires : tie.Need-spared-requires Inv-loop μ-loop
+spared-requires c κs =
+    let l = c .before .before .before .loop in
+    form-few _ _ _ (l .stop) (l .steps) (l .inv .1) (omega arith) (λ z. c .if1 .left (c .before .count-in .ensures ∙ z))
+
 returns-2 : tie.Need-returns-2 Inv-loop μ-loop
 returns-2 c =
-    let l = c .before .before .before .loop in
-    form-six _ _ _ (l .stop) (l .steps) (l .inv .1) (omega arith) (λ z. c .if1 .left (c .before .count-in .ensures ∙ z))
+    let l = c .before .before .before .before .loop in
+    c .spared .ensures ∙ form-spared _ _ _ (l .stop) (l .steps) (l .inv .1) (omega arith) (λ z. c .before .if1 .left (c .before .before .count-in .ensures ∙ z))
 
 pub form-spec : {M : Type 1} → statement M
 form-spec =
@@ -55,5 +60,6 @@ form-spec =
     (λ c. search needs)
     loop-again
     (λ c κs. search needs)
+    spared-requires
     returns
     returns-2)

@@ -1,0 +1,3 @@
+-- The spare pattern of a set.
+pub mod Spare
+pub mod Answer
