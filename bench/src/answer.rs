@@ -1,10 +1,12 @@
-// An answer: the seeds of a set, the one seed of a window, or a refusal. Exact columns must print the same.
+// An answer: the seeds of a set, the one seed of a window, the stop slice of a set, or a refusal. Exact columns must print the same.
 
 use std::fmt;
 
 #[derive(Debug, PartialEq)]
 pub enum Answer {
     Seeds(Vec<u64>),
+    /// A stop slice's specified positions and bits.
+    Stop(u64, u64),
     /// A refusal's number and value.
     Refused(usize, usize),
 }
@@ -26,6 +28,14 @@ impl Answer {
         }
     }
 
+    /// The answer for a stop slice: its specified positions and bits, or refusal 6.
+    pub fn of_stop(told: Option<(u64, u64)>) -> Answer {
+        match told {
+            Some((specified, bits)) => Answer::Stop(specified, bits),
+            None => Answer::Refused(6, 0),
+        }
+    }
+
     pub fn read(line: &str) -> Option<Answer> {
         let mut words = line.split_whitespace();
         let first = words.next()?;
@@ -33,15 +43,21 @@ impl Answer {
             let mut number = || words.next()?.parse().ok();
             return Some(Answer::Refused(number()?, number()?));
         }
-        let seed = |word| u64::from_str_radix(word, 16).ok();
-        Some(Answer::Seeds(words.map(seed).collect::<Option<_>>()?))
+        let hexadecimal = |word| u64::from_str_radix(word, 16).ok();
+        if first == "stop" {
+            let mut word = || hexadecimal(words.next()?);
+            return Some(Answer::Stop(word()?, word()?));
+        }
+        Some(Answer::Seeds(
+            words.map(hexadecimal).collect::<Option<_>>()?,
+        ))
     }
 
-    /// The number of seeds; none for a refusal.
+    /// The number of seeds; none for a stop slice or a refusal.
     pub fn seeds(&self) -> Option<usize> {
         match self {
             Answer::Seeds(seeds) => Some(seeds.len()),
-            Answer::Refused(..) => None,
+            Answer::Stop(..) | Answer::Refused(..) => None,
         }
     }
 
@@ -50,6 +66,7 @@ impl Answer {
         match self {
             Answer::Seeds(seeds) => seeds.len().to_string(),
             Answer::Refused(number, value) => format!("refused by {number} with {value}"),
+            Answer::Stop(..) => self.to_string(),
         }
     }
 
@@ -58,6 +75,16 @@ impl Answer {
         match self {
             Answer::Seeds(seeds) => seeds.first().map_or(String::new(), |s| format!("{s:x}")),
             Answer::Refused(..) => "none".to_string(),
+            Answer::Stop(..) => self.to_string(),
+        }
+    }
+
+    /// What a table of stop slices says of it: its number of positions.
+    pub fn of_stops_table(&self) -> String {
+        match self {
+            Answer::Stop(specified, _) => specified.count_ones().to_string(),
+            Answer::Refused(number, _) => format!("refused by {number}"),
+            Answer::Seeds(_) => self.to_string(),
         }
     }
 }
@@ -69,6 +96,7 @@ impl fmt::Display for Answer {
                 write!(to, "seeds")?;
                 seeds.iter().try_for_each(|seed| write!(to, " {seed:x}"))
             }
+            Answer::Stop(specified, bits) => write!(to, "stop {specified:x} {bits:x}"),
             Answer::Refused(number, value) => write!(to, "refused {number} {value}"),
         }
     }

@@ -1,9 +1,27 @@
-// A case: what one measurement hands in, a set or a single window. Its text is what the measuring process reads.
+// A case: what one measurement hands in, a set or a single window, and what is asked of it. Its text is what the measuring process reads.
+
+/// What is asked of the slices.
+#[derive(Clone, Copy, Debug, PartialEq)]
+pub enum Ask {
+    /// The seeds of a set.
+    Set = 0,
+    /// The seed of one window.
+    Window = 1,
+    /// The stop slice of a set; of the masks only their number counts.
+    Stop = 2,
+}
+
+impl Ask {
+    /// The one with a number.
+    fn numbered(number: u64) -> Option<Ask> {
+        let all = [Ask::Set, Ask::Window, Ask::Stop];
+        all.into_iter().find(|&ask| ask as u64 == number)
+    }
+}
 
 #[derive(Clone)]
 pub struct Case {
-    /// The slices are one window; otherwise they are a set.
-    pub window: bool,
+    pub ask: Ask,
     pub cells: usize,
     pub taps: u64,
     pub masks: Vec<u64>,
@@ -26,7 +44,7 @@ fn words(line: &str) -> Option<Vec<u64>> {
 impl Case {
     pub fn text(&self) -> String {
         let numbers = [
-            u64::from(self.window),
+            self.ask as u64,
             self.cells as u64,
             self.taps,
             self.stop.0,
@@ -39,11 +57,11 @@ impl Case {
 
     pub fn read(text: &str) -> Option<Case> {
         let mut lines = text.lines().map(words);
-        let [window, cells, taps, specified, bits] = lines.next()??[..] else {
+        let [ask, cells, taps, specified, bits] = lines.next()??[..] else {
             return None;
         };
         Some(Case {
-            window: window == 1,
+            ask: Ask::numbered(ask)?,
             cells: cells as usize,
             taps,
             stop: (specified, bits),

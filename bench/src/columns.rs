@@ -1,8 +1,8 @@
 // The columns of the tables: what is measured beside the library.
 
 use crate::answer::Answer;
-use crate::case::Case;
-use crate::{enumeration, fast, library, solver};
+use crate::case::{Ask, Case};
+use crate::{enumeration, fast, library, marked, solver};
 
 #[derive(Clone, Copy, Debug, PartialEq)]
 pub enum Column {
@@ -10,6 +10,8 @@ pub enum Column {
     Ours,
     /// The same algorithm in Rust, without proofs: every acceleration, each window searched once.
     Fast,
+    /// The stop slice by the same rule in Rust, without proofs: the slices still in are kept in a list.
+    Marked,
     /// The second program.
     Second,
     /// Plain enumeration.
@@ -20,9 +22,10 @@ pub enum Column {
     First,
 }
 
-const ALL: [Column; 6] = [
+const ALL: [Column; 7] = [
     Column::Ours,
     Column::Fast,
+    Column::Marked,
     Column::Second,
     Column::Enumeration,
     Column::Sat,
@@ -38,12 +41,15 @@ pub fn first_program() -> Option<std::ffi::OsString> {
 }
 
 impl Column {
-    /// The columns that can be measured here, for windows or for sets.
-    pub fn here(windows: bool) -> Vec<Column> {
-        let measured = |column: &Column| match column {
-            Column::Sat => windows && solver::found(),
-            Column::First => first_program().is_some(),
-            _ => true,
+    /// The columns that can be measured here, for what is asked.
+    pub fn here(ask: Ask) -> Vec<Column> {
+        let measured = |column: &Column| match (column, ask) {
+            (Column::Ours | Column::Second, _) => true,
+            (Column::Marked, _) => ask == Ask::Stop,
+            (_, Ask::Stop) => false,
+            (Column::Sat, _) => ask == Ask::Window && solver::found(),
+            (Column::First, _) => first_program().is_some(),
+            (Column::Fast | Column::Enumeration, _) => true,
         };
         ALL.into_iter().filter(measured).collect()
     }
@@ -53,6 +59,7 @@ impl Column {
         match self {
             Column::Ours => "ours",
             Column::Fast => "fast",
+            Column::Marked => "marked",
             Column::Second => "second",
             Column::Enumeration => "enumeration",
             Column::Sat => "SAT",
@@ -64,17 +71,23 @@ impl Column {
         ALL.into_iter().find(|column| column.name() == name)
     }
 
-    /// The answer of a column that runs in the measuring process; none for the others.
+    /// The answer of a column that runs in the measuring process; none for the others, or where it has no answer to what is asked.
     pub fn answer(self, case: &Case) -> Option<Answer> {
-        match (self, case.window) {
-            (Column::Ours, true) => Some(library::window(case)),
-            (Column::Ours, false) => Some(library::set(case)),
-            (Column::Fast, true) => Some(Answer::of_window(fast_window(case))),
-            (Column::Fast, false) => Some(Answer::of_set(fast_set(case))),
-            (Column::Second, true) => Some(second_window(case)),
-            (Column::Second, false) => Some(second_set(case)),
-            (Column::Enumeration, true) => Some(Answer::of_window(enumeration::window(case))),
-            (Column::Enumeration, false) => Some(Answer::of_set(enumeration::set(case))),
+        match (self, case.ask) {
+            (Column::Ours, Ask::Window) => Some(library::window(case)),
+            (Column::Ours, Ask::Set) => Some(library::set(case)),
+            (Column::Ours, Ask::Stop) => Some(library::stop(case)),
+            (Column::Fast, Ask::Window) => Some(Answer::of_window(fast_window(case))),
+            (Column::Fast, Ask::Set) => Some(Answer::of_set(fast_set(case))),
+            (Column::Marked, Ask::Stop) => Some(Answer::of_stop(marked_stop(case))),
+            (Column::Second, Ask::Window) => Some(second_window(case)),
+            (Column::Second, Ask::Set) => Some(second_set(case)),
+            (Column::Second, Ask::Stop) => Some(second_stop(case)),
+            (Column::Enumeration, Ask::Window) => {
+                Some(Answer::of_window(enumeration::window(case)))
+            }
+            (Column::Enumeration, Ask::Set) => Some(Answer::of_set(enumeration::set(case))),
+            (Column::Fast | Column::Enumeration, Ask::Stop) | (Column::Marked, _) => None,
             (Column::Sat | Column::First, _) => None,
         }
     }
@@ -100,6 +113,10 @@ fn fast_set(case: &Case) -> Result<Vec<u64>, usize> {
         &case.specified,
         &case.bits,
     )
+}
+
+fn marked_stop(case: &Case) -> Option<(u64, u64)> {
+    marked::stop(case.masks.len(), &case.specified, &case.bits)
 }
 
 fn second_window(case: &Case) -> Answer {
@@ -132,6 +149,14 @@ fn second_set(case: &Case) -> Answer {
     );
     match told {
         Ok(count) => Answer::Seeds(out[..count].to_vec()),
+        Err(refused) => Answer::Refused(refused.number as usize, refused.value as usize),
+    }
+}
+
+fn second_stop(case: &Case) -> Answer {
+    let told = second::stop_slice(case.masks.len() as u64, &case.specified, &case.bits);
+    match told {
+        Ok((specified, bits)) => Answer::Stop(specified, bits),
         Err(refused) => Answer::Refused(refused.number as usize, refused.value as usize),
     }
 }

@@ -1,6 +1,6 @@
 // Degenerate registers: a ring (the last cell alone is tapped), chains with equal masks, and a single chain.
 
-use crate::case::Case;
+use crate::case::{Ask, Case};
 use crate::random::Random;
 use crate::sets::{some_positions, stop_by_steps, TAPS};
 
@@ -42,7 +42,7 @@ pub fn window(register: &Register, positions: u32, length: usize) -> Case {
         random.word() & positions
     };
     Case {
-        window: true,
+        ask: Ask::Window,
         cells: 64,
         taps: register.taps,
         masks: register.masks.clone(),
@@ -68,7 +68,7 @@ pub fn set(register: &Register, percent: u64) -> Result<Case, String> {
     let chains = register.masks.len();
     let mut random = Random(6_400 + percent);
     let mut case = window(register, 1, 0);
-    case.window = false;
+    case.ask = Ask::Set;
     for _ in 0..256 {
         let specified = random.sparse(chains, percent);
         let bits = random.word() & specified;

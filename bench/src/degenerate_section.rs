@@ -1,6 +1,6 @@
 // The section on degenerate registers: windows of x and sparse sets.
 
-use crate::case::Case;
+use crate::case::{Ask, Case};
 use crate::columns::Column;
 use crate::degenerate;
 use crate::report::Report;
@@ -47,9 +47,9 @@ fn measure(
 ) -> Result<(), String> {
     let (times, answer) = row(case, plan, left).map_err(|why| format!("{name}, {what}: {why}"))?;
     left.extend(times.stopped().filter(may_be_left));
-    let told = answer.map(|answer| match case.window {
-        true => answer.of_windows_table(),
-        false => answer.of_sets_table(),
+    let told = answer.map(|answer| match case.ask {
+        Ask::Window => answer.of_windows_table(),
+        _ => answer.of_sets_table(),
     });
     let labels = [
         name.to_string(),

@@ -1,4 +1,4 @@
-// The two entries of the proved library that are measured.
+// The three entries of the proved library that are measured.
 
 use crate::answer::Answer;
 use crate::case::Case;
@@ -34,4 +34,11 @@ pub fn set(case: &Case) -> Answer {
     let mut out = vec![0; case.specified.len()];
     seeds::encode_set(machine, stop, set, &mut out)
         .map_or_else(refused, |count| Answer::Seeds(out[..count].to_vec()))
+}
+
+/// The stop slice of the case's slices.
+pub fn stop(case: &Case) -> Answer {
+    let (_, _, set) = parts(case);
+    seeds::stop_slice(case.masks.len(), set)
+        .map_or_else(refused, |stop| Answer::Stop(stop.specified, stop.bits))
 }

@@ -1,6 +1,6 @@
 // The benchmark program: the proved library beside other programs and a SAT solver, on the same sets and windows in one run.
 // `bench [SECONDS] [FOLDER]` prints the tables and writes FOLDER/benchmarks.md with its plots; SECONDS limits the CPU time of each measurement.
-// `bench part NAME SECONDS` prints one section (sets, windows or degenerate) and writes nothing.
+// `bench part NAME SECONDS` prints one section (sets, windows, degenerate or stops) and writes nothing; `bench part stops SECONDS FOLDER` writes the section's plot.
 // FIRST_VERSION may name the benchmark program of an earlier commit, built with SEEDS_LIBRARY: the folder of the static library that rust/build.rs links.
 // `bench quick` runs a few small rows, writes nothing and ends with `N passed, M failed`.
 // It is built with the workspace's profile `measured`; a build that checks for overflow measures nothing.
@@ -16,6 +16,7 @@ mod enumeration;
 mod fast;
 mod fewest;
 mod library;
+mod marked;
 mod measure;
 mod one;
 mod plots;
@@ -31,6 +32,8 @@ mod sets;
 mod sets_section;
 mod solver;
 mod space;
+mod stops;
+mod stops_section;
 mod svg;
 mod table;
 mod whole;
@@ -75,6 +78,9 @@ fn main() -> ExitCode {
         ["one", column, limit, least] => one::run(column, limit, least),
         ["quick"] => quick::run(),
         ["part", name, limit] => measured(limit, |limit| whole::part(name, limit)),
+        ["part", "stops", limit, folder] => {
+            measured(limit, |limit| whole::stops_part(limit, folder))
+        }
         [] => measured("10", |limit| whole::run(limit, "docs")),
         [limit] => measured(limit, |limit| whole::run(limit, "docs")),
         [limit, folder] => measured(limit, |limit| whole::run(limit, folder)),

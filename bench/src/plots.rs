@@ -1,17 +1,20 @@
-// The plots of the run: cost against cells, stop positions, slices and density.
+// The plots of the run: cost against cells, stop positions, slices and density; of stop slices against density.
 
 use crate::columns::Column;
 use crate::measure::Time;
 use crate::row::Times;
 use crate::sets::Kind;
 use crate::sets_section::SetRow;
+use crate::stops::PERCENT;
+use crate::stops_section::StopRow;
 use crate::svg::{Plot, Point, Series};
 use crate::windows_section::WindowRow;
 
 /// The columns that are drawn, and their colours.
-const DRAWN: [(Column, &str); 4] = [
+const DRAWN: [(Column, &str); 5] = [
     (Column::Ours, "#1f5fa8"),
     (Column::Fast, "#2e8b57"),
+    (Column::Marked, "#a8327d"),
     (Column::Second, "#c2571a"),
     (Column::First, "#7a4fa3"),
 ];
@@ -143,12 +146,33 @@ fn against_density(rows: &[SetRow]) -> Plot {
     }
 }
 
+/// The plot of the section on stop slices, and its name.
+pub fn of_stops(rows: &[StopRow]) -> (&'static str, Plot) {
+    ("benchmarks-stops.svg", stops_against_density(rows))
+}
+
+fn stops_against_density(rows: &[StopRow]) -> Plot {
+    let places: Vec<Measured> = rows
+        .iter()
+        .filter_map(|row| Some((row.percent? as f64, &row.times)))
+        .collect();
+    Plot {
+        title: "One stop slice, by the part of the set's bits that is specified".to_string(),
+        more: "64 chains, 2,048 random slices".to_string(),
+        x_label: "% specified",
+        ticks: PERCENT.map(|percent| percent as f64).into(),
+        logarithmic: true,
+        series: curves(&places, "", false),
+    }
+}
+
 /// All plots, with the names of their files.
-pub fn all(sets: &[SetRow], windows: &[WindowRow]) -> [(&'static str, Plot); 4] {
+pub fn all(sets: &[SetRow], windows: &[WindowRow], stops: &[StopRow]) -> [(&'static str, Plot); 5] {
     [
         ("benchmarks-cells.svg", against_cells(windows)),
         ("benchmarks-positions.svg", against_positions(windows)),
         ("benchmarks-slices.svg", against_slices(sets)),
         ("benchmarks-density.svg", against_density(sets)),
+        of_stops(stops),
     ]
 }

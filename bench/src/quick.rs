@@ -1,13 +1,14 @@
 // `bench quick`: a few small rows of each kind, measured once and compared. It writes nothing and ends with `N passed, M failed`.
 
 use crate::answer::Answer;
-use crate::case::Case;
+use crate::case::{Ask, Case};
 use crate::columns::Column;
 use crate::degenerate;
 use crate::measure::Limits;
 use crate::published;
 use crate::row::{row, Plan};
 use crate::sets::{full_slices, set, Kind};
+use crate::stops;
 use crate::windows::{window, REGISTERS};
 use std::process::ExitCode;
 
@@ -75,13 +76,30 @@ fn degenerate() -> Result<Vec<(String, Case)>, String> {
     Ok(cases)
 }
 
-/// Measures a case in all columns, and gives the number of those that answer; enumeration is left out where it takes long, on degenerate registers. It passes if two or more columns answer, all alike, and document 004's procedure has no fewer seeds.
+fn stops() -> Vec<(String, Case)> {
+    let sets = [
+        stops::random(20, 30, 128),
+        stops::patterns(8, 5),
+        stops::patterns(5, 5),
+        stops::all_but_last(5, 64),
+    ];
+    let named = sets.map(|set| {
+        let chains = set.case.masks.len();
+        (
+            format!("stop slice of {chains} chains, {}", set.name),
+            set.case,
+        )
+    });
+    named.into()
+}
+
+/// Measures a case in all columns, and gives the number of those that answer; enumeration is left out where it takes long, on degenerate registers. It passes if two or more columns answer, all alike, and document 004's procedure has no fewer seeds for a set.
 fn passes(case: &Case) -> Result<usize, String> {
     let hard = case.cells == 64 && case.masks.len() <= 16;
     let left = [Column::Enumeration];
     let left: &[Column] = if hard { &left } else { &[] };
     let plan = Plan {
-        columns: Column::here(case.window),
+        columns: Column::here(case.ask),
         limits: LIMITS,
         rounds: 1,
     };
@@ -89,7 +107,7 @@ fn passes(case: &Case) -> Result<usize, String> {
     if times.answered() < 2 {
         return Err("fewer than two columns answer".to_string());
     }
-    if case.window {
+    if case.ask != Ask::Set {
         return Ok(times.answered());
     }
     let fewest = answer.as_ref().and_then(Answer::seeds);
@@ -119,7 +137,7 @@ fn cases(cases: Vec<(String, Case)>) -> (usize, usize) {
 }
 
 pub fn run() -> ExitCode {
-    let all = sets().and_then(|sets| Ok([sets, windows(), degenerate()?].concat()));
+    let all = sets().and_then(|sets| Ok([sets, windows(), degenerate()?, stops()].concat()));
     let (passed, failed) = match all {
         Ok(all) => cases(all),
         Err(why) => {

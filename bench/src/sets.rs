@@ -1,6 +1,6 @@
 // The sets that are measured: 64 cells, random masks and slices, and a set of full slices that a run of the register delivers.
 
-use crate::case::Case;
+use crate::case::{Ask, Case};
 use crate::random::Random;
 
 pub const TAPS: u64 = 0xd800_0000_0000_0000;
@@ -63,7 +63,7 @@ pub fn set(kind: Kind) -> Result<Case, String> {
     let begun = kind.chains as u64 * 1_000 + kind.percent + u64::from(kind.clustered) * 500;
     let mut random = Random(begun);
     let mut case = Case {
-        window: false,
+        ask: Ask::Set,
         cells: 64,
         taps: TAPS,
         masks: (0..kind.chains).map(|_| random.word().max(1)).collect(),
@@ -97,7 +97,7 @@ pub fn full_slices() -> Case {
         state = second::step(64, TAPS, state);
     }
     let mut case = Case {
-        window: false,
+        ask: Ask::Set,
         cells: 64,
         taps: TAPS,
         masks,

@@ -5,8 +5,9 @@ use crate::measure::Time;
 use crate::row::Times;
 
 /// The ratios that are printed where both columns are measured.
-const RATIOS: [(Column, Column); 5] = [
+const RATIOS: [(Column, Column); 6] = [
     (Column::Ours, Column::Fast),
+    (Column::Ours, Column::Marked),
     (Column::Second, Column::Ours),
     (Column::Enumeration, Column::Ours),
     (Column::Sat, Column::Ours),

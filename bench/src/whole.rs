@@ -1,6 +1,7 @@
 // The whole run: all sections, the plots, and the file.
 
 use crate::bars;
+use crate::case::Ask;
 use crate::columns::Column;
 use crate::degenerate_section;
 use crate::fewest;
@@ -9,6 +10,7 @@ use crate::plots;
 use crate::report::Report;
 use crate::row::{Plan, SHORT};
 use crate::sets_section;
+use crate::stops_section;
 use crate::table::digits;
 use crate::windows_section;
 use std::path::Path;
@@ -18,9 +20,9 @@ use std::time::Instant;
 const LEAST: f64 = 0.2;
 const ROUNDS: usize = 3;
 
-fn plan(windows: bool, limit: f64) -> Plan {
+fn plan(ask: Ask, limit: f64) -> Plan {
     Plan {
-        columns: Column::here(windows),
+        columns: Column::here(ask),
         limits: Limits {
             limit,
             least: LEAST,
@@ -42,13 +44,14 @@ fn opening(report: &mut Report, limit: f64) {
     report.line("# Benchmarks");
     report.paragraph("What `bench` printed in one run: the proved library beside other programs, on the same sets and windows. Columns:");
     report.line("");
-    report.line("- ours: the proved library (`seeds_encode_set`, `seeds_window`);");
+    report.line("- ours: the proved library (`seeds_encode_set`, `seeds_window`, `seeds_stop`);");
     report.line("- fast: the same algorithm in Rust, without proofs, with every acceleration and each window searched once (`bench/src/fast.rs`);");
+    report.line("- marked: the stop slice by the same rule in Rust, without proofs, with a list of the slices still in (`bench/src/marked.rs`), in the section on stop slices only;");
     report.line("- second: the second program, whose search is its author's own;");
     report.line("- enumeration: the states that satisfy the equations, tried in rising order (`bench/src/enumeration.rs`);");
     report.line("- SAT: cryptominisat5, on single windows, where it is installed;");
     report.line("- first version: the library of an earlier commit, where FIRST_VERSION names a benchmark program that links it.");
-    report.paragraph(&format!("Times are CPU seconds of one call, each measured in a process of its own that is stopped after {limit} s. After one call that is not counted, a short call is repeated until {LEAST} s have passed. The columns of a row are measured by turns; of times below {SHORT} s the least of {ROUNDS} rounds is given. All columns are exact: those that end have the same seeds and refusals, or the run fails."));
+    report.paragraph(&format!("Times are CPU seconds of one call, each measured in a process of its own that is stopped after {limit} s. After one call that is not counted, a short call is repeated until {LEAST} s have passed. The columns of a row are measured by turns; of times below {SHORT} s the least of {ROUNDS} rounds is given. All columns are exact: those that end have the same seeds, stop slices and refusals, or the run fails."));
     report.paragraph(&format!("Processor: {}; {cores} cores.", processor()));
 }
 
@@ -60,13 +63,14 @@ pub fn run(limit: f64, folder: &str) -> Result<(), String> {
     let begun = Instant::now();
     let mut report = Report::new();
     opening(&mut report, limit);
-    let sets = sets_section::section(&mut report, &plan(false, limit))?;
-    let windows = windows_section::section(&mut report, &plan(true, limit))?;
-    degenerate_section::section(&mut report, &plan(true, limit))?;
+    let sets = sets_section::section(&mut report, &plan(Ask::Set, limit))?;
+    let windows = windows_section::section(&mut report, &plan(Ask::Window, limit))?;
+    degenerate_section::section(&mut report, &plan(Ask::Window, limit))?;
+    let stops = stops_section::section(&mut report, &plan(Ask::Stop, limit))?;
     fewest::section(&mut report, &sets);
     let folder = Path::new(folder);
     report.paragraph("## Plots");
-    for (name, plot) in plots::all(&sets, &windows) {
+    for (name, plot) in plots::all(&sets, &windows, &stops) {
         report.paragraph(&format!("![{}]({name})", plot.title));
         write(&folder.join(name), &plot.svg())?;
     }
@@ -76,21 +80,35 @@ pub fn run(limit: f64, folder: &str) -> Result<(), String> {
     write(&folder.join("benchmarks.md"), report.text())
 }
 
+/// The section on stop slices alone, printed, with its plot.
+pub fn stops_part(limit: f64, folder: &str) -> Result<(), String> {
+    let rows = stops_section::section(&mut Report::new(), &plan(Ask::Stop, limit))?;
+    let (name, plot) = plots::of_stops(&rows);
+    write(&Path::new(folder).join(name), &plot.svg())
+}
+
 /// One section alone, printed and not written.
 pub fn part(name: &str, limit: f64) -> Result<(), String> {
     let report = &mut Report::new();
     match name {
         "sets" => {
-            let sets = sets_section::section(report, &plan(false, limit))?;
+            let sets = sets_section::section(report, &plan(Ask::Set, limit))?;
             fewest::section(report, &sets);
             bars::section(report, &sets, &[]);
         }
         "windows" => {
-            let windows = windows_section::section(report, &plan(true, limit))?;
+            let windows = windows_section::section(report, &plan(Ask::Window, limit))?;
             bars::section(report, &[], &windows);
         }
-        "degenerate" => degenerate_section::section(report, &plan(true, limit))?,
-        _ => return Err(format!("{name} is no section: sets, windows or degenerate")),
+        "degenerate" => degenerate_section::section(report, &plan(Ask::Window, limit))?,
+        "stops" => {
+            stops_section::section(report, &plan(Ask::Stop, limit))?;
+        }
+        _ => {
+            return Err(format!(
+                "{name} is no section: sets, windows, degenerate or stops"
+            ))
+        }
     }
     Ok(())
 }

@@ -1,7 +1,7 @@
 // The hard windows: all x, near the length where covering ends. A part of a covered window is covered, so that length is found by halving.
 
 use crate::answer::Answer;
-use crate::case::Case;
+use crate::case::{Ask, Case};
 use crate::columns::Column;
 use crate::measure::{measure, Limits};
 use crate::random::Random;
@@ -27,7 +27,7 @@ pub fn window(register: (usize, u64, usize), positions: u32, length: usize) -> C
     let masks = (0..chains).map(|_| random.bits(cells).max(1)).collect();
     let positions = some_positions(&mut random, chains, positions);
     Case {
-        window: true,
+        ask: Ask::Window,
         cells,
         taps,
         masks,

@@ -145,10 +145,7 @@ fn library_leaves(report: &mut Report) {
         "library: stop slice where all patterns but one are taken",
         spares::all_but_one(),
     );
-    report.case(
-        "library: stop slice of many chains",
-        spares::many_chains(),
-    );
+    report.case("library: stop slice of many chains", spares::many_chains());
     report.case("library: expanding", expands::answers());
 }
 

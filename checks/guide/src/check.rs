@@ -22,6 +22,9 @@ const WITH_NAMES: [&str; 7] = [
     "docs/load.md",
 ];
 
+/// The folder of the notes on requests, whose citations are looked up too.
+const REQUESTS: &str = "docs/requests";
+
 /// The picture, and the sheet that it shows.
 const PICTURE: &str = "docs/window.svg";
 const SHEET: &str = "examples/sheet.txt";
@@ -42,6 +45,15 @@ fn has_examples(root: &Path, file: &str) -> bool {
     root.join(file).exists() && examples::found(root, file) != Ok(Vec::new())
 }
 
+/// The notes on requests, in order.
+fn requests(root: &Path) -> Vec<String> {
+    let entries = std::fs::read_dir(root.join(REQUESTS)).into_iter().flatten();
+    let names = entries.filter_map(|entry| entry.ok()?.file_name().into_string().ok());
+    let mut files: Vec<String> = names.map(|name| format!("{REQUESTS}/{name}")).collect();
+    files.sort();
+    files
+}
+
 /// All cases, of the documents that are there. The manual and its picture must be.
 pub fn all(root: &Path) -> bool {
     let mut report = Report::new();
@@ -56,6 +68,9 @@ pub fn all(root: &Path) -> bool {
         if root.join(file).exists() {
             names::file(&mut report, root, file);
         }
+    }
+    for file in requests(root) {
+        names::file(&mut report, root, &file);
     }
     report.end()
 }

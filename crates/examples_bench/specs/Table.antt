@@ -134,7 +134,7 @@ table =
     ∷ record { asked = stop-slice 2 ("1x" ∷ "1x" ∷ "1x" ∷ "10" ∷ "00" ∷ "01" ∷ []); told = slice-is (slice "11") }
     -- R-1: 100 is smaller than 001, for the leftmost character counts least; 0xx, 01x and 10x take no pattern
     ∷ record { asked = stop-slice 3 ("0xx" ∷ "01x" ∷ "101" ∷ "111" ∷ "10x" ∷ "110" ∷ "010" ∷ "000" ∷ []); told = slice-is (slice "100") }
-    -- R-1: the last pattern is tried too, and all four taken are refused
+    -- R-1: all four patterns are taken
     ∷ record { asked = stop-slice 2 ("10" ∷ "00" ∷ "01" ∷ "1x" ∷ "10" ∷ "11" ∷ []); told = refused 6 0 }
     -- R-1: where the steps succeed, they decide
     ∷ record { asked = stop-slice 2 ("10" ∷ "00" ∷ []); told = slice-is (slice "x1") }

@@ -92,6 +92,7 @@ module _ (chains : ℕ) (specified bits : List ℕ) where
   formed-means = record {
     unformed = call-refused;
     decided = λ w stop e. call-formed w ∙ ap stopOr6 (rule w .decided stop e);
+    spared = λ w e. (let q = rule w .spared e in (q .0, call-formed w ∙ ap stopOr6 (q .1)));
     good = good;
     six = λ w c e. (let q = rule-refused w c e in (q .1, rule w .six (q .0)));
     exactly = λ w. ((λ e. rule w .exactly .0 (rule-refused w cause.AllTaken e .0)), λ n. call-formed w ∙ ap stopOr6 (rule w .exactly .1 n));
