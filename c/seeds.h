@@ -141,7 +141,7 @@ size_t seeds_check_list(seeds_settings settings, const uint64_t *masks, size_t m
                         uint64_t stop_specified, uint64_t stop_bits,
                         size_t slices, size_t seeds);
 
-/* The stop slice of a set. */
+/* The stop slice of a set: that of the published steps or, where they end with slices in, the smallest pattern that is free. */
 seeds_stop_answer seeds_stop(size_t chains,
                              const uint64_t *specified, size_t specified_len,
                              const uint64_t *bits, size_t bits_len);

@@ -2,7 +2,7 @@
 --     call-refused, call-formed     its answer, by the checks
 --     few-chains                    a well-formed call has at most 64 chains
 --     lawful                        the set of a well-formed call
---     rule-stop, rule-refused     what its answer says of the rule
+--     rule-stop, rule-refused       what its answer says of the rule
 --     formed-means, formed-outcome  the answer means what it says
 -- Assumes nothing.
 use mathlib.Core.Path.{_≡_, refl, sym, ap, _∙_}

@@ -3,7 +3,7 @@
 --     rest                              whether a test slice from the place i on equals the pattern
 --     taken-hit, taken-miss, taken-past     a loop that goes up through the slices: what is left decides
 -- Assumes nothing.
-use mathlib.Core.Path.{_≡_, refl}
+use mathlib.Core.Path.{_≡_}
 use mathlib.Core.Bool.{Bool, true, false}
 use mathlib.Core.List.{List}
 use Prim.Native.Nat.{ℕ, _+_, _≤_, _<_, min}

@@ -6,19 +6,18 @@
 --     all-taken                     where there is none, every pattern is taken
 --     patterns-fit                  no more patterns than slices: their number fits a word
 -- Assumes nothing.
-use mathlib.Core.Path.{_≡_, refl, sym, ap, _∙_}
+use mathlib.Core.Path.{_≡_, sym, ap}
 use mathlib.Core.Logic.{⊎-elim}
 use mathlib.Core.Bool.{Bool, true, false, not}
 use mathlib.Core.Option.{Option, none, some}
 use mathlib.Core.List.{List}
-use Prim.Native.Nat.{ℕ, zero, suc, _+_, _^_, _≤_, _<_}
-use native.Mathlib.Nat.{le-of-suc-le-suc, eq-or-lt-of-le}
-use native.Mathlib.Numerals.{add-one}
+use Prim.Native.Nat.{ℕ, _+_, _^_, _≤_, _<_}
+use native.Mathlib.Nat.{eq-or-lt-of-le}
 use native.Mathlib.Omega.{arith}
 use lib.ListN.{length}
 use lib.Pow.{pow-mono}
 use borrow.Author.Tests.{not-true, not-false}
-use Rattle.words_bounded.specs.Bounded.{any, leastBelow, NoneBelow, Least}
+use Rattle.words_bounded.specs.Bounded.{any, leastBelow, NoneBelow}
 use Rattle.words_bounded.proofs.Tests.{lt-or-le}
 use Rattle.words_bounded.proofs.Search.{LeastIs, least-is, least-of, none-of}
 use Rattle.machine_slices.specs.declared.TestSlice.{TestSlice}

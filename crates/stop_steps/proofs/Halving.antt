@@ -18,7 +18,7 @@ use borrow.Author.Tests.{eqb-true}
 use Rattle.words_gf2.specs.Words.{digit}
 use Rattle.words_gf2.proofs.Ones.{ones-put, ones-all}
 use Rattle.machine_slices.specs.declared.TestSlice.{TestSlice}
-use Rattle.stop_steps.specs.Steps.{has, count, choice, settle, keep, isEmpty, Stage, start, setBy, advance, stage}
+use Rattle.stop_steps.specs.Steps.{has, count, choice, settle, keep, isEmpty, Stage, setBy, advance, stage}
 use Rattle.stop_steps.specs.Meaning.{AllSet}
 use Rattle.stop_steps.proofs.Filter.{filter-parts}
 use Rattle.stop_steps.proofs.Choice.{bits-apart, Chosen, ChoiceIs, choice-is}

@@ -2,7 +2,7 @@
 --     spare-good          no well-formed test slice has all bits of a pattern that is not taken
 --     taken-none-good     where all patterns are taken, no stop slice is good: some test slice has all its bits
 -- Assumes nothing.
-use mathlib.Core.Path.{_≡_, refl, sym, ap, ap₂, _∙_}
+use mathlib.Core.Path.{_≡_, sym, ap, _∙_}
 use mathlib.Core.Logic.{⊎-elim}
 use mathlib.Core.Bool.{true, false}
 use mathlib.Core.List.{List}
@@ -10,8 +10,8 @@ use Prim.Native.Nat.{ℕ, _-_, _^_, _≤_, _<_}
 use native.Mathlib.Omega.{arith}
 use lib.Bits.{bitAnd, and-le-r}
 use lib.Dec.{eqb}
-use lib.ListN.{length, getD}
-use lib.Pow.{pow-mono, pow-pos}
+use lib.ListN.{getD}
+use lib.Pow.{pow-mono}
 use borrow.Author.Tests.{eqb-true, eq-eqb}
 use Rattle.words_bounded.specs.Bounded.{any}
 use Rattle.words_bounded.proofs.Any.{any-at, any-place}
@@ -20,11 +20,11 @@ use Rattle.words_gf2.specs.Words.{digit}
 use Rattle.words_gf2.proofs.Digits.{digit-and, digit-lt, digit-wide, words-equal, beyond-no}
 use Rattle.words_gf2.proofs.Ones.{full-digit, full-word}
 use Rattle.machine_slices.specs.declared.TestSlice.{TestSlice}
-use Rattle.machine_slices.specs.Slices.{full, badSlice, badStop}
+use Rattle.machine_slices.specs.Slices.{full, badSlice}
 use Rattle.machine_slices.proofs.Causes.{slice-last, stop-formed}
 use Rattle.machine_slices.proofs.Formed.{Formed, slice-formed, stop-slice}
 use Rattle.stop_spare.specs.Spare.{equals, taken}
-use Rattle.stop_steps.specs.Steps.{has, isSet}
+use Rattle.stop_steps.specs.Steps.{has}
 use Rattle.stop_steps.specs.Lookup.{HasAll}
 use Rattle.stop_steps.specs.Meaning.{StopMeaning, NoneGood}
 
