@@ -1,4 +1,3 @@
--- The laws of one step and of the whole call, and the proofs of the functions.
-pub mod Tracking
-pub mod OneStep
+-- The laws of the whole call, and the proofs of the functions.
+pub mod Forming
 pub mod Calls

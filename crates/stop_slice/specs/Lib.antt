@@ -1,4 +1,3 @@
--- The call for a stop slice, and the choice of a step.
+-- The call for a stop slice, and what its answer means.
 pub mod Entry
 pub mod Meaning
-pub mod Choosing

@@ -6,8 +6,8 @@ use borrow.Author.Needs.{needs}
 use Rattle.machine_slices.specs.declared.TestSlice.{TestSlice}
 use Rattle.machine_slices.specs.Slices.{paired}
 use Rattle.stop_steps.specs.Steps.{stage}
-use Rattle.stop_slice.specs.Choosing.{nextOf}
-use Rattle.stop_slice.proofs.OneStep.{stage-specified, next-stage, form-stop, form-few, form-spared}
+use Rattle.stop_choice.specs.Choosing.{nextOf}
+use Rattle.stop_slice.proofs.Forming.{stage-specified, next-stage, form-stop, form-few, form-spared}
 use Rattle.stop_slice.proofs.form.Statement.{statement}
 use Rattle.stop_slice.proofs.form.Tie as tie
 

@@ -1,7 +1,7 @@
 -- `stop_slice::spared` meets its contract. Assumes nothing.
 use mathlib.Core.Path.{sym, _∙_}
 use borrow.Author.Needs.{needs}
-use Rattle.stop_slice.proofs.OneStep.{spare-stop, spare-six}
+use Rattle.stop_slice.proofs.Forming.{spare-stop, spare-six}
 use Rattle.stop_slice.proofs.spared.Statement.{statement}
 use Rattle.stop_slice.proofs.spared.Tie as tie
 

@@ -1,12 +1,12 @@
--- `stop_slice::next` meets its contract. Assumes nothing.
+-- `stop_choice::next` meets its contract. Assumes nothing.
 use mathlib.Core.Path.{_≡_, sym, _∙_}
 use native.Mathlib.Omega.{arith}
 use borrow.Author.Needs.{needs}
-use Rattle.stop_slice.specs.Choosing.{chosen}
-use Rattle.stop_slice.specs.declared.Best.the-variants.{Nothing, Choice}
-use Rattle.stop_slice.proofs.OneStep.{next-empty, next-none, next-some, chosen-unset}
-use Rattle.stop_slice.proofs.next.Statement.{statement}
-use Rattle.stop_slice.proofs.next.Tie as tie
+use Rattle.stop_choice.specs.Choosing.{chosen}
+use Rattle.stop_choice.specs.declared.Best.the-variants.{Nothing, Choice}
+use Rattle.stop_choice.proofs.OneStep.{next-empty, next-none, next-some, chosen-unset}
+use Rattle.stop_choice.proofs.next.Statement.{statement}
+use Rattle.stop_choice.proofs.next.Tie as tie
 
 returns : tie.Need-returns
 returns c = sym (next-empty _ _ _ _ (sym (c .before .count-in .ensures) ∙ c .if1 .taken))

@@ -1,13 +1,13 @@
--- `stop_slice::choose` meets its contract: the best is the choice among those passed. Assumes nothing.
+-- `stop_choice::choose` meets its contract: the best is the choice among those passed. Assumes nothing.
 use mathlib.Core.Path.{_≡_, refl, ap, _∙_}
 use Prim.Native.Nat.{_*_, _-_, _≤_}
 use native.Mathlib.Omega.{arith}
 use borrow.Author.Needs.{needs}
 use Rattle.stop_steps.specs.Steps.{choice as choiceOf}
-use Rattle.stop_slice.specs.Choosing.{tracked, countIn, weighed, chosen}
-use Rattle.stop_slice.proofs.Tracking.{weigh-next}
-use Rattle.stop_slice.proofs.choose.Statement.{statement}
-use Rattle.stop_slice.proofs.choose.Tie as tie
+use Rattle.stop_choice.specs.Choosing.{tracked, countIn, weighed, chosen}
+use Rattle.stop_choice.proofs.Tracking.{weigh-next}
+use Rattle.stop_choice.proofs.choose.Statement.{statement}
+use Rattle.stop_choice.proofs.choose.Tie as tie
 
 abbrev Inv-loop : tie.InvT-loop
 Inv-loop chains stop specified bits best₀ choice₀ best choice = (choice ≤ 2 * chains) × (best ≡ tracked (countIn stop specified bits) (choiceOf stop (countIn stop specified bits) choice))

@@ -15,8 +15,8 @@ use Rattle.machine_slices.specs.declared.TestSlice.{TestSlice}
 use Rattle.machine_slices.specs.Slices.{paired}
 use Rattle.stop_steps.specs.Steps.{isSet, filter, count, choice, advance}
 use Rattle.stop_steps.specs.Lookup.{isIn}
-use Rattle.stop_slice.specs.declared.Best.{Best}
-use Rattle.stop_slice.specs.declared.Best.the-variants.{Nothing, Choice}
+use Rattle.stop_choice.specs.declared.Best.{Best}
+use Rattle.stop_choice.specs.declared.Best.the-variants.{Nothing, Choice}
 
 abbrev pub tracked : (ℕ → ℕ) → Option ℕ → Best
 tracked counts none = Nothing

@@ -18,10 +18,10 @@ use Rattle.machine_slices.specs.declared.TestSlice.{TestSlice}
 use Rattle.machine_slices.specs.Slices.{paired}
 use Rattle.stop_steps.specs.Steps.{isSet, put, better, choice}
 use Rattle.stop_steps.specs.Lookup.{BitsSpecified, inCount}
-use Rattle.stop_slice.specs.Choosing.{tracked, track, countIn, weighed}
+use Rattle.stop_choice.specs.Choosing.{tracked, track, countIn, weighed}
 use Rattle.stop_steps.proofs.Lookup.{free-unset, count-in}
-use Rattle.stop_slice.specs.declared.Best.{Best}
-use Rattle.stop_slice.specs.declared.Best.the-variants.{Choice}
+use Rattle.stop_choice.specs.declared.Best.{Best}
+use Rattle.stop_choice.specs.declared.Best.the-variants.{Choice}
 
 pub track-more : (q n r most : ℕ) → most < n → track q n (Choice r most) ≡ Choice q n
 unfolding track

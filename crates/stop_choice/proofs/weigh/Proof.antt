@@ -1,15 +1,15 @@
--- `stop_slice::weigh` meets its contract. Assumes nothing.
+-- `stop_choice::weigh` meets its contract. Assumes nothing.
 use mathlib.Core.Path.{sym, ap, _∙_}
 use Prim.Native.Nat.{ℕ}
 use native.Mathlib.Omega.{arith}
 use borrow.Author.Needs.{needs}
 use Rattle.machine_slices.specs.declared.TestSlice.{TestSlice}
 use Rattle.stop_steps.specs.Lookup.{inCount}
-use Rattle.stop_slice.specs.Choosing.{track}
+use Rattle.stop_choice.specs.Choosing.{track}
 use Rattle.stop_steps.proofs.Lookup.{free-unset}
-use Rattle.stop_slice.proofs.Tracking.{weighed-set, weighed-unset}
-use Rattle.stop_slice.proofs.weigh.Statement.{statement}
-use Rattle.stop_slice.proofs.weigh.Tie as tie
+use Rattle.stop_choice.proofs.Tracking.{weighed-set, weighed-unset}
+use Rattle.stop_choice.proofs.weigh.Statement.{statement}
+use Rattle.stop_choice.proofs.weigh.Tie as tie
 
 put-requires : tie.Need-put-requires
 put-requires c κs =

@@ -1,10 +1,10 @@
--- `stop_slice::better` meets its contract. Assumes nothing.
+-- `stop_choice::better` meets its contract. Assumes nothing.
 use mathlib.Core.Path.{sym, ap, _∙_}
 use borrow.Author.Needs.{needs}
-use Rattle.stop_slice.specs.Choosing.{track}
-use Rattle.stop_slice.proofs.Tracking.{track-more, track-less}
-use Rattle.stop_slice.proofs.better.Statement.{statement}
-use Rattle.stop_slice.proofs.better.Tie as tie
+use Rattle.stop_choice.specs.Choosing.{track}
+use Rattle.stop_choice.proofs.Tracking.{track-more, track-less}
+use Rattle.stop_choice.proofs.better.Statement.{statement}
+use Rattle.stop_choice.proofs.better.Tie as tie
 
 returns : tie.Need-returns
 unfolding track
