@@ -4,6 +4,7 @@
 use crate::call::Call;
 use crate::inputs::{damage_lightly, lawful, thin};
 use crate::random::Random;
+use crate::stops::pressed;
 use second::Refused;
 use std::collections::{BTreeMap, BTreeSet};
 use std::fmt::Write;
@@ -266,27 +267,38 @@ fn lists(random: &mut Random, count: usize) -> Table {
     }
 }
 
+/// Whether the stop slice of a set is a spare pattern: the second program's steps end with slices in, and there is one.
+fn spared(call: &Call) -> bool {
+    let chains = call.masks.len() as u64;
+    let trace = second::stop_trace(chains, &call.specified, &call.bits);
+    trace.is_ok_and(|trace| !trace.left.is_empty()) && call.stop_slice().is_ok()
+}
+
+/// A set whose stop slice is asked for. Every eighth is made again until it has a spare pattern.
+fn stop_set(random: &mut Random) -> Call {
+    let mut call = lawful(random, 5, 5, 8);
+    if random.one_in(8) {
+        while !spared(&call) {
+            let set = pressed(random);
+            call.masks = vec![1; set.chains];
+            (call.specified, call.bits) = (set.specified, set.bits);
+        }
+    } else if random.one_in(4) {
+        damage_lightly(random, &mut call);
+    }
+    call
+}
+
 fn stops(random: &mut Random, count: usize) -> Table {
     let rows = (0..count).map(|_| {
-        // every second set has at most two chains, so that slices are often in when the steps end
-        let most_chains = [5, 2][usize::from(random.one_in(2))];
-        let mut call = lawful(random, 5, most_chains, 8);
-        if random.one_in(4) {
-            damage_lightly(random, &mut call);
-        }
+        let call = stop_set(random);
         let chains = call.masks.len();
         let told = match call.stop_slice() {
             Ok(stop) => format!("formed.Stop {}", slice(stop)),
             Err(refused) => format!("formed.Refused {}", cause(refused)),
         };
-        (
-            format!(
-                "stopOf {chains} {} {}",
-                list(&call.specified),
-                list(&call.bits)
-            ),
-            told,
-        )
+        let set = format!("{} {}", list(&call.specified), list(&call.bits));
+        (format!("stopOf {chains} {set}"), told)
     });
     Table {
         name: "stops",

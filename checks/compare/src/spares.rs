@@ -45,7 +45,7 @@ fn against_brute_force(set: &Set, seen: &mut Seen) -> Outcome {
     Ok(count)
 }
 
-/// Every set of up to four slices of two chains, and of up to three of three chains.
+/// Every set of up to six slices of one chain, of up to four of two chains and of up to three of three.
 pub fn every_small_set() -> Outcome {
     let mut seen = Seen::default();
     let mut count = 0;

@@ -80,7 +80,7 @@ fn crowded(random: &mut Random, chains: usize, missing: usize) -> Set {
 }
 
 /// Most patterns of two or three chains, and as many slices with an x or again: the steps often end with slices in where a pattern is free.
-fn pressed(random: &mut Random) -> Set {
+pub fn pressed(random: &mut Random) -> Set {
     let (chains, missing) = (random.between(2, 3), random.between(1, 2));
     let mut set = crowded(random, chains, missing);
     let again = random.between(0, set.specified.len());
