@@ -17,7 +17,7 @@ extern "C" {
 #endif
 
 /* The version of this header and of the Rust package; docs/library.md says what stays from one to the next. */
-#define SEEDS_VERSION "0.4.0"
+#define SEEDS_VERSION "0.4.1"
 
 /* Most cells of a register; most chains; most slices of a window, and the greatest depth; most slices of a set, and most seeds
  * of a list. */
@@ -32,6 +32,9 @@ extern "C" {
 
 /* Bytes of stack that are enough for every call: a thread may be made with just that many. */
 #define SEEDS_STACK 655360
+
+/* The same for seeds_stop alone, which keeps nothing for each slice. */
+#define SEEDS_STACK_STOP 512
 
 /* The number of an answer: accepted, or the cause of the refusal. docs/library.md has the whole cause and the value of each. */
 enum seeds_cause {

@@ -24,6 +24,7 @@ pub use encoding::{encode_cubes, encode_set, stop_slice, window_seed, Encoded};
 pub use expanding::expand;
 pub use limits::{
     LONGEST_INPUT, LONGEST_OUTPUT, LONGEST_WINDOW, MOST_CELLS, MOST_CHAINS, MOST_SLICES, STACK,
+    STACK_STOP,
 };
 pub use raw::Settings;
 pub use refusal::Refusal;

@@ -11,7 +11,7 @@ struct Limit {
     from: &'static str,
 }
 
-/// All limits but the stack, which no source has.
+/// All limits but those of the stack, which no source has.
 fn limits() -> [Limit; 6] {
     let constant = |name, number, from| Limit { name, number, from };
     [
@@ -46,6 +46,7 @@ fn the_header_has_the_limits_and_no_other() {
     let header = file("c/seeds.h");
     let mut all: Vec<(&str, usize)> = limits().iter().map(|l| (l.name, l.number)).collect();
     all.push(("STACK", seeds::STACK));
+    all.push(("STACK_STOP", seeds::STACK_STOP));
     for &(name, limit) in &all {
         let mark = format!("#define SEEDS_{name} ");
         assert_eq!(number(&header, &mark), Some(limit), "{name}");

@@ -5,7 +5,7 @@ use crate::call::Call;
 use crate::inputs::{damage_lightly, lawful, thin};
 use crate::random::Random;
 use crate::stops::pressed;
-use second::Refused;
+use second::{Refused, StopTrace};
 use std::collections::{BTreeMap, BTreeSet};
 use std::fmt::Write;
 use std::fs;
@@ -103,6 +103,7 @@ use Rattle.refusal_causes.specs.declared.Cause.the-variants as cause
 use Rattle.refusal_causes.specs.declared.Written.the-variants as written
 use Rattle.refusal_causes.specs.Outcome.{Outcome}
 use Rattle.machine_settings.specs.Machine.{base}
+use Rattle.machine_slices.specs.declared.TestSlice.{TestSlice}
 use Rattle.stop_slice.specs.declared.Formed.{Formed}
 use Rattle.stop_slice.specs.declared.Formed.the-variants as formed
 use Rattle.theory_covering.specs.declared.Seed.{Seed}
@@ -307,6 +308,58 @@ fn stops(random: &mut Random, count: usize) -> Table {
     }
 }
 
+/// The test slices at so many places, as a list.
+fn test_slices(call: &Call, places: &[usize]) -> String {
+    let mut text = String::from("(");
+    for &place in places {
+        let pair = (call.specified[place], call.bits[place]);
+        let _ = write!(text, "{} ∷ ", slice(pair));
+    }
+    text + "[])"
+}
+
+/// The places of the slices that the second program's steps leave in after so many of them.
+fn left_after(trace: &StopTrace, slices: usize, steps: usize) -> Vec<usize> {
+    let mut left: Vec<usize> = (0..slices).collect();
+    for iteration in trace.iterations.iter().take(steps) {
+        left.retain(|place| !iteration.removed.contains(place));
+    }
+    left
+}
+
+/// A set on which the steps are two or more, and these.
+fn several_steps(random: &mut Random) -> (Call, StopTrace) {
+    loop {
+        let call = stop_set(random);
+        let chains = call.masks.len() as u64;
+        match second::stop_trace(chains, &call.specified, &call.bits) {
+            Ok(trace) if trace.iterations.len() > 1 => return (call, trace),
+            _ => {}
+        }
+    }
+}
+
+/// Document 02, R-7: after so many steps, the slices that are looked up to be in, and those that the published steps leave in.
+fn stages(random: &mut Random, count: usize) -> Table {
+    let rows = (0..count).map(|_| {
+        let (call, trace) = several_steps(random);
+        let steps = random.between(0, trace.iterations.len() + 1);
+        let left = left_after(&trace, call.specified.len(), steps);
+        let set = format!("(paired {} {})", list(&call.specified), list(&call.bits));
+        let stage = format!("stage {} {set} {steps}", call.masks.len());
+        let told = test_slices(&call, &left);
+        (
+            format!("(filter (isIn ({stage} .stop)) {set} ∷ {stage} .left ∷ [])"),
+            format!("({told} ∷ {told} ∷ [])"),
+        )
+    });
+    Table {
+        name: "stages",
+        kind: "List (List TestSlice)",
+        rows: rows.collect(),
+    }
+}
+
 /// The lines of a sheet.
 fn sheet(random: &mut Random, call: &Call) -> Vec<String> {
     let chains = call.masks.len();
@@ -414,6 +467,7 @@ pub fn write(root: &Path, file: &Path) -> io::Result<usize> {
         lists(&mut random, 400),
         stops(&mut random, 400),
         texts(&mut random, 800),
+        stages(&mut random, 100),
     ];
     let (lines, names) = definitions(root)?;
     let unfolding = format!("ones onesIn {}", names.join(" "));

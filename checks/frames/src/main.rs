@@ -1,6 +1,6 @@
 // The frames program: the most stack that each entry of the compiled library needs, worked out from its machine code.
 //     frames LIBRARY HEADER
-// LIBRARY is target/staticlib/libseeds.a, HEADER is c/seeds.h, whose SEEDS_STACK must be enough for each entry.
+// LIBRARY is target/staticlib/libseeds.a, HEADER is c/seeds.h, whose SEEDS_STACK must be enough for each entry, and SEEDS_STACK_STOP for seeds_stop.
 // It prints a line for each entry, with the frames that are on the stack at the deepest place, and ends with `N passed, M failed`.
 // What it does not understand it refuses: an indirect call, another change of the stack pointer, code that no way leads to, a function that is nowhere.
 
@@ -17,11 +17,9 @@ mod tables;
 
 use flow::RETURN;
 use graph::{Graph, Step, Way};
+use header::{Header, ENTRY};
 use library::Library;
 use std::process::ExitCode;
-
-/// What the names of the entries begin with.
-const ENTRY: &str = "seeds_";
 
 /// The deepest way of each entry, in the order of the library.
 fn entries(file: &str) -> Result<Vec<(String, Way)>, String> {
@@ -50,9 +48,10 @@ fn shown(step: &Step) -> String {
 }
 
 /// Prints a line for each entry; how many passed and failed.
-fn tell(ways: &[(String, Way)], bound: u64) -> (usize, usize) {
+fn tell(ways: &[(String, Way)], header: &Header) -> (usize, usize) {
     let mut failed = 0;
     for (name, way) in ways {
+        let bound = header.bound(name);
         let bytes = way.bytes + RETURN.unsigned_abs();
         let steps: Vec<String> = way.steps.iter().map(shown).collect();
         let word = if bytes <= bound { "pass" } else { "FAIL" };
@@ -71,7 +70,7 @@ fn main() -> ExitCode {
         println!("frames LIBRARY HEADER");
         return ExitCode::FAILURE;
     };
-    let told = entries(library).and_then(|ways| Ok(tell(&ways, header::stack(header)?)));
+    let told = entries(library).and_then(|ways| Ok(tell(&ways, &Header::read(header)?)));
     let (passed, failed) = told.unwrap_or_else(|why| {
         println!("FAIL {why}");
         (0, 1)

@@ -22,8 +22,8 @@ use Rattle.refusal_order.specs.Order.{judged}
 use Rattle.refusal_checks.specs.Calls.{setFaults, cubesFaults}
 use Rattle.refusal_order.specs.declared.Verdict.{Verdict}
 use Rattle.stop_steps.specs.Steps.{stopFor}
-use Rattle.stop_steps.specs.Meaning.{NoneGood, RuleMeaning}
-use Rattle.stop_steps.proofs.Meaning.{rule-means}
+use Rattle.stop_steps.specs.Meaning.{NoneGood}
+use Rattle.stop_steps.proofs.Meaning.{RuleMeaning, rule-means}
 use Rattle.stop_slice.proofs.Calls.{lawful}
 use Rattle.theory_covering.specs.Rules.{rules}
 use Rattle.encoder_meaning.specs.Encoding.{encoding, encodeSet}

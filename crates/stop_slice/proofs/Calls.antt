@@ -23,10 +23,10 @@ use Rattle.refusal_order.specs.declared.Verdict.{Verdict}
 use Rattle.refusal_order.proofs.Order.{NoFault, formed-well}
 use Rattle.stop_steps.specs.Steps.{stopFor}
 use Rattle.stop_slice.specs.Entry.{stopOr6, stopOf}
-use Rattle.stop_steps.specs.Meaning.{StopMeaning, RuleMeaning}
+use Rattle.stop_steps.specs.Meaning.{StopMeaning}
 use Rattle.stop_slice.specs.declared.Formed.{Formed}
 use Rattle.stop_slice.specs.declared.Formed.the-variants.{Stop, Refused}
-use Rattle.stop_steps.proofs.Meaning.{Lawful, rule-means}
+use Rattle.stop_steps.proofs.Meaning.{Lawful, RuleMeaning, rule-means}
 use Rattle.stop_slice.specs.Meaning.{FormedMeaning}
 use Rattle.refusal_causes.specs.declared.Cause.the-variants as cause
 use Rattle.refusal_order.specs.declared.Verdict.the-variants as verdict

@@ -23,7 +23,7 @@ use Rattle.stop_slice.specs.declared.Formed.the-variants.{Stop, Refused}
 use Rattle.stop_spare.specs.Answer.{patternOf}
 use Rattle.stop_spare.specs.declared.Pattern.the-variants.{Spare, AllTaken}
 use Rattle.refusal_causes.specs.declared.Cause.the-variants as cause
-use Rattle.stop_steps.proofs.Stages.{stage-sound, stage-left}
+use Rattle.stop_steps.proofs.Stages.{stage-sound, looked-up}
 use Rattle.stop_steps.proofs.Meaning.{left-in, decided, spared}
 use Rattle.stop_choice.proofs.OneStep.{empty-zero, empty-more}
 
@@ -43,15 +43,15 @@ module _ (chains : ℕ) (specified bits : List ℕ) where
   set = paired specified bits
 
   -- the stage whose slices are looked up
-  looked-up : (k : ℕ) → record { stop = stage chains set k .stop; left = inOf (stage chains set k .stop) specified bits } ≡ stage chains set k
-  looked-up k = ap (λ (l : List TestSlice). record { stop = stage chains set k .stop; left = l }) (stage-left chains set k)
+  stage-in : (k : ℕ) → record { stop = stage chains set k .stop; left = inOf (stage chains set k .stop) specified bits } ≡ stage chains set k
+  stage-in k = ap (λ (l : List TestSlice). record { stop = stage chains set k .stop; left = l }) (looked-up chains set .left-in k)
 
   pub stage-specified : (k : ℕ) → BitsSpecified (stage chains set k .stop)
   stage-specified k = stage-sound chains set k .specified
 
   pub next-stage : (k : ℕ) → nextOf chains (stage chains set k .stop) specified bits ≡ stage chains set (k + 1) .stop
   unfolding nextOf stage
-  next-stage k = rw add-one (ap (λ (g : Stage). advance chains g .stop) (looked-up k))
+  next-stage k = rw add-one (ap (λ (g : Stage). advance chains g .stop) (stage-in k))
 
   -- what the steps give, by whether a slice is in
   by : List TestSlice → Option TestSlice
@@ -59,7 +59,7 @@ module _ (chains : ℕ) (specified bits : List ℕ) where
 
   given : steps chains set ≡ by (inOf (stage chains set chains .stop) specified bits)
   unfolding steps ended by
-  given = ap by (sym (stage-left chains set chains))
+  given = ap by (sym (looked-up chains set .left-in chains))
 
   module _ (stop : TestSlice) (k : ℕ) (here : stop ≡ stage chains set k .stop) (last : k ≡ chains) where
     ends : stage chains set chains .stop ≡ stop

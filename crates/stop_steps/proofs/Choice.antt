@@ -1,26 +1,22 @@
 -- The choice of a step is document 01's: the greatest count, on a tie the leftmost position, and there the 0s before the 1s.
 --     bits-apart                 a slice has one bit at a position
---     none-counted-left          no slice that stays in has the counted bit
 --     Chosen stop counts n q     of the choices below n at unset positions, q has the greatest count, and each lower one has less
 --     ChoiceIs, choice-is        the choice is so, or every position is set
 --     zero-bit, zero-leftmost    where the greatest count is 0, the choice is the leftmost unset position with the bit 0, which becomes 1
---     zero-empties               and all slices still in go out
 -- Assumes nothing.
 use mathlib.Core.Path.{_≡_, refl}
 use mathlib.Core.Logic.{⊎-elim}
 use mathlib.Core.Bool.{Bool, true, false}
 use mathlib.Core.Option.{Option, none, some}
-use mathlib.Core.List.{List, [], _∷_}
-use Prim.Native.Nat.{ℕ, zero, suc, _+_, _-_, _*_, _/_, _%_, _≤_, _<_}
+use Prim.Native.Nat.{ℕ, zero, suc, _-_, _*_, _/_, _%_, _≤_, _<_}
 use native.Mathlib.Nat.{not-suc-le-zero, le-of-suc-le-suc, eq-or-lt-of-le}
 use native.Mathlib.Omega.{arith}
 use lib.Dec.{ltb, eqb}
-use lib.ListN.{length}
 use borrow.Author.Tests.{ltb-true, ltb-false, eqb-true, ne-eqb}
 use Rattle.words_bounded.proofs.Tests.{clash, lt-or-le, both}
 use Rattle.words_gf2.specs.Words.{digit}
 use Rattle.machine_slices.specs.declared.TestSlice.{TestSlice}
-use Rattle.stop_steps.specs.Steps.{has, filter, isSet, count, better, choice, keep}
+use Rattle.stop_steps.specs.Steps.{has, isSet, better, choice}
 
 pub record Chosen (stop : TestSlice) (counts : ℕ → ℕ) (n q : ℕ) : Type 0 where
   pub below : q < n
@@ -32,26 +28,12 @@ abbrev pub ChoiceIs : TestSlice → (ℕ → ℕ) → ℕ → Option ℕ → Typ
 ChoiceIs stop counts n none = (r : ℕ) → r < n → isSet (r / 2) stop ≡ true
 ChoiceIs stop counts n (some q) = Chosen stop counts n q
 
-filter-apart : (p r : TestSlice → Bool) → ((x : TestSlice) → p x ≡ true → r x ≡ false) → (xs : List TestSlice) → filter r (filter p xs) ≡ []
-unfolding filter
-filter-apart p r apart [] = refl
-filter-apart p r apart (x ∷ xs) = go (p x) refl (filter-apart p r apart xs)
-  where
-    go : (b : Bool) → p x ≡ b → filter r (filter p xs) ≡ [] → filter r (elim b [ true ↦ x ∷ filter p xs | false ↦ filter p xs ]) ≡ []
-    go true e ih = rw (apart x e, filter) ih
-    go false e ih = ih
-
 -- the two bits of a position are apart
 pub bits-apart : (p b : ℕ) (x : TestSlice) → b < 2 → has p (1 - b) x ≡ true → has p b x ≡ false
 bits-apart p b x l t =
     let a = both (eqb (digit (x .specified) p) 1) (eqb (digit (x .bits) p) (1 - b)) t in
     let d = eqb-true (digit (x .bits) p) (1 - b) (a .1) in
     rw (a .0, ne-eqb (digit (x .bits) p) b (λ e. omega arith))
-
-pub none-counted-left : (q : ℕ) (xs : List TestSlice) → count q (keep q xs) ≡ 0
-unfolding count keep
-none-counted-left q xs =
-    rw (filter-apart (has (q / 2) (1 - q % 2)) (has (q / 2) (q % 2)) (λ x t. bits-apart (q / 2) (q % 2) x (omega arith) t) xs)
 
 module _ (stop : TestSlice) (counts : ℕ → ℕ) where
   -- what holds at n and of each number below n
@@ -122,13 +104,3 @@ module _ (stop : TestSlice) (counts : ℕ → ℕ) where
         go : (b : Bool) → isSet p stop ≡ b → b ≡ true
         go true e = refl
         go false e = absurd (lower-set (2 * p) (omega arith) (let d : 2 * p / 2 ≡ p = omega arith in rw d e))
-
-module _ (stop : TestSlice) (xs : List TestSlice) (chains q : ℕ) (c : Chosen stop (λ r. count r xs) (2 * chains) q) (none-counted : count q xs ≡ 0) where
-  pub zero-empties : length (keep q xs) ≡ 0
-  unfolding keep count
-  zero-empties =
-      let z = zero-bit stop (λ r. count r xs) (2 * chains) q c none-counted in
-      let p : (q + 1) / 2 ≡ q / 2 = omega arith in
-      let b : (q + 1) % 2 ≡ 1 - q % 2 = omega arith in
-      let e : count (q + 1) xs ≡ length (keep q xs) = rw (p, b) in
-      omega (arith, c .greatest (q + 1) (omega (arith, c .below)) (rw p (c .unset)))

@@ -3,6 +3,7 @@
 --     filter-filter     one test after another
 --     filter-all        a test that every slice passes
 --     filter-empty      where nothing is left, no member passes
+--     filter-apart      of two tests that no slice passes both, one after the other leaves nothing
 --     filter-parts      of two tests that no slice passes both, what they leave is together no more than there was
 -- Assumes nothing.
 use mathlib.Core.Path.{_≡_, refl, ap, ap₂}
@@ -48,6 +49,15 @@ filter-empty p (x ∷ xs) e i d h = go (p x) refl e i h (λ e k l. filter-empty 
     go true t e i h ih = absurd (let z : _≡_ {A = ℕ} (suc (length (filter p xs))) 0 = ap length e in omega arith)
     go false t e zero h ih = t
     go false t e (suc i) h ih = ih e i (le-of-suc-le-suc h)
+
+pub filter-apart : (p r : TestSlice → Bool) → ((x : TestSlice) → p x ≡ true → r x ≡ false) → (xs : List TestSlice) → filter r (filter p xs) ≡ []
+unfolding filter
+filter-apart p r apart [] = refl
+filter-apart p r apart (x ∷ xs) = go (p x) refl (filter-apart p r apart xs)
+  where
+    go : (b : Bool) → p x ≡ b → filter r (filter p xs) ≡ [] → filter r (picked x b (filter p xs)) ≡ []
+    go true e ih = rw (apart x e, filter) ih
+    go false e ih = ih
 
 pub filter-parts : (p r : TestSlice → Bool) → ((x : TestSlice) → p x ≡ true → r x ≡ false) → (xs : List TestSlice) → length (filter p xs) + length (filter r xs) ≤ length xs
 unfolding filter

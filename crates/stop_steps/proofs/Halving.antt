@@ -1,5 +1,7 @@
--- Each step that sets a position leaves at most half of the slices in: the count of the chosen bit is the greatest, so the slices that stay are no more than those that go out.
---     halves                    one step
+-- How many slices a step that sets a position leaves in: none that has the counted bit; at most half of them, since the count of the chosen bit is the greatest, so that the slices that stay are no more than those that go out; and none where the greatest count is 0.
+--     none-counted-left         no slice that stays in has the counted bit
+--     halves                    at most half of the slices stay in
+--     zero-empties              where the greatest count is 0, all slices go out
 --     Halved set g              the slices still in, times 2 for each position set, are no more than the set has
 --     stage-halved              so it is after each step
 --     left-few                  where all positions are set and slices are in, there are at least as many slices as patterns
@@ -20,10 +22,15 @@ use Rattle.words_gf2.proofs.Ones.{ones-put, ones-all}
 use Rattle.machine_slices.specs.declared.TestSlice.{TestSlice}
 use Rattle.stop_steps.specs.Steps.{has, count, choice, settle, keep, isEmpty, Stage, setBy, advance, stage}
 use Rattle.stop_steps.specs.Meaning.{AllSet}
-use Rattle.stop_steps.proofs.Filter.{filter-parts}
+use Rattle.stop_steps.proofs.Filter.{filter-apart, filter-parts}
 use Rattle.stop_steps.proofs.Choice.{bits-apart, Chosen, ChoiceIs, choice-is}
 use Rattle.stop_steps.proofs.Lookup.{unset-free}
 use Rattle.stop_steps.proofs.Stages.{moved}
+
+pub none-counted-left : (q : ℕ) (xs : List TestSlice) → count q (keep q xs) ≡ 0
+unfolding count keep
+none-counted-left q xs =
+    rw (filter-apart (has (q / 2) (1 - q % 2)) (has (q / 2) (q % 2)) (λ x t. bits-apart (q / 2) (q % 2) x (omega arith) t) xs)
 
 -- the slices that stay have the other bit, which is a choice too
 module _ (stop : TestSlice) (xs : List TestSlice) (chains q : ℕ) (c : Chosen stop (λ r. count r xs) (2 * chains) q) where
@@ -41,6 +48,9 @@ module _ (stop : TestSlice) (xs : List TestSlice) (chains q : ℕ) (c : Chosen s
   pub halves : 2 * length (keep q xs) ≤ length xs
   unfolding keep count
   halves = omega (arith, stay-fewer, filter-parts (has (q / 2) (1 - q % 2)) (has (q / 2) (q % 2)) (λ x t. bits-apart (q / 2) (q % 2) x (omega arith) t) xs)
+
+  pub zero-empties : count q xs ≡ 0 → length (keep q xs) ≡ 0
+  zero-empties none-counted = omega (arith, stay-fewer)
 
 abbrev pub Halved : List TestSlice → Stage → Type 0
 Halved set g = 2 ^ ones (g .stop .specified) * length (g .left) ≤ length set

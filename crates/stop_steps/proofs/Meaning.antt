@@ -5,10 +5,11 @@
 --     Lawful chains set   a set of well-formed slices, with a slice and a chain
 --     stop-means     of the stop slice of a set
 --     six-means      where it has none
---     rule-means     of the whole rule
+--     RuleMeaning chains set answer     of the rule for a stop slice: the steps decide or else the spare pattern, a stop slice is good, and there is none exactly where none is good
+--     rule-means     so the rule is
 -- Assumes nothing.
 use mathlib.Core.Path.{_≡_, refl, sym, _∙_}
-use mathlib.Core.Logic.{inl, inr, ⊎-elim}
+use mathlib.Core.Logic.{_↔_, inl, inr, ⊎-elim}
 use mathlib.Core.Bool.{Bool, true, false}
 use mathlib.Core.Option.{Option, none, some}
 use mathlib.Core.List.{List, [], _∷_}
@@ -29,7 +30,7 @@ use Rattle.stop_spare.specs.Spare.{spareStop}
 use Rattle.stop_spare.proofs.Search.{spared as spared-is, all-taken}
 use Rattle.stop_steps.specs.Steps.{isSet, isEmpty, Stage, stage, ended, steps, stopFor}
 use Rattle.stop_steps.specs.Lookup.{isIn}
-use Rattle.stop_steps.specs.Meaning.{AllSet, StopMeaning, NoneGood, LeftIn, SixMeaning, RuleMeaning}
+use Rattle.stop_steps.specs.Meaning.{AllSet, StopMeaning, NoneGood, LeftIn, SixMeaning}
 use Rattle.stop_steps.proofs.Filter.{filter-empty}
 use Rattle.stop_steps.proofs.Lookup.{each-in}
 use Rattle.stop_steps.proofs.Stages.{Sound, Progress, stage-sound, stage-progress}
@@ -40,6 +41,13 @@ pub record Lawful (chains : ℕ) (set : List TestSlice) : Type 0 where
   pub some-chain : 0 < chains
   pub some-slice : 0 < length set
   pub formed : any (badSlice chains) set ≡ false
+
+pub record RuleMeaning (chains : ℕ) (set : List TestSlice) (answer : Option TestSlice) : Type 0 where
+  pub decided : (stop : TestSlice) → steps chains set ≡ some stop → answer ≡ some stop
+  pub spared : steps chains set ≡ none → LeftIn chains set × (answer ≡ spareStop chains set)
+  pub good : (stop : TestSlice) → answer ≡ some stop → StopMeaning chains set stop
+  pub six : answer ≡ none → SixMeaning chains set
+  pub exactly : (answer ≡ none) ↔ NoneGood chains set
 
 module _ (chains : ℕ) (set : List TestSlice) where
   module _ (some-slice : 0 < length set) (g : Stage) (s : Sound chains set g) (empty : g .left ≡ []) where

@@ -24,7 +24,6 @@ use Rattle.machine_slices.specs.Slices.{full, badSlice}
 use Rattle.machine_slices.proofs.Causes.{slice-last, stop-formed}
 use Rattle.machine_slices.proofs.Formed.{Formed, slice-formed, stop-slice}
 use Rattle.stop_spare.specs.Spare.{equals, taken}
-use Rattle.stop_steps.specs.Steps.{has}
 use Rattle.stop_steps.specs.Lookup.{HasAll}
 use Rattle.stop_steps.specs.Meaning.{StopMeaning, NoneGood}
 

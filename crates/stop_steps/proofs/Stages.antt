@@ -1,7 +1,7 @@
 -- The stages of the stop slice steps.
 --     Sound chains set g     the stop slice so far is well-formed, and the slices still in are those that are looked up to be in
 --     stage-sound            so it is after each step
---     stage-left             after each step, the slices that are looked up to be in are just those that the published steps leave in
+--     looked-up              after each step, the slices that are looked up to be in are just those that the published steps leave in
 --     moved, advanced        the stage after a step, by whether no slice is in and by the choice
 --     Progress chains k g    after k steps no slice is in, or no position is unset, or k positions are set
 --     stage-progress         so it is
@@ -21,10 +21,10 @@ use Rattle.words_gf2.proofs.Digits.{put-below}
 use Rattle.words_gf2.proofs.Ones.{ones-put}
 use Rattle.machine_slices.specs.declared.TestSlice.{TestSlice}
 use Rattle.stop_steps.specs.Steps.{isSet, filter, count, choice, settle, keep, isEmpty, Stage, start, setBy, advance, stage}
-use Rattle.stop_steps.specs.Lookup.{BitsSpecified, isIn}
+use Rattle.stop_steps.specs.Lookup.{BitsSpecified, isIn, LookedUp}
 use Rattle.stop_steps.specs.Meaning.{AllSet}
 use Rattle.stop_steps.proofs.Choice.{Chosen, ChoiceIs, choice-is}
-use Rattle.stop_steps.proofs.Lookup.{one-weight, unset-free, put-formed, in-start, left-in}
+use Rattle.stop_steps.proofs.Lookup.{in-each, each-in, one-weight, unset-free, put-formed, in-start, left-in}
 
 pub record Sound (chains : ℕ) (set : List TestSlice) (g : Stage) : Type 0 where
   pub specified : BitsSpecified (g .stop)
@@ -87,8 +87,11 @@ module _ (chains : ℕ) (set : List TestSlice) where
   stage-sound zero = start-sound
   stage-sound (suc k) = advance-sound (stage chains set k) (stage-sound k)
 
-  pub stage-left : (k : ℕ) → filter (isIn (stage chains set k .stop)) set ≡ stage chains set k .left
-  stage-left k = stage-sound k .in-left
+  pub looked-up : LookedUp chains set
+  looked-up = record {
+    is-in = λ k t. (in-each (stage chains set k .stop) t, each-in (stage chains set k .stop) t (stage-sound k .specified));
+    left-in = λ k. stage-sound k .in-left;
+  }
 
   pub stage-progress : (k : ℕ) → Progress chains k (stage chains set k)
   unfolding stage

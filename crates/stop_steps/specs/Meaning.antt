@@ -4,18 +4,15 @@
 --     NoneGood chains set       no stop slice is so
 --     LeftIn chains set         of steps that end with slices in: no position is unset, and there are at least as many slices as patterns
 --     SixMeaning chains set     of refusal 6: the fully specified slices take up all patterns, and no stop slice is good
---     RuleMeaning chains set answer     of the rule for a stop slice: the steps decide or else the spare pattern, a stop slice is good, and there is none exactly where none is good
 use mathlib.Core.Path.{_≡_}
 use mathlib.Core.Bool.{true, false}
 use mathlib.Core.List.{List}
-use mathlib.Core.Logic.{_↔_}
-use mathlib.Core.Option.{Option, none, some}
 use Prim.Native.Nat.{ℕ, _^_, _≤_, _<_}
 use lib.ListN.{length, getD}
 use Rattle.machine_slices.specs.declared.TestSlice.{TestSlice}
 use Rattle.machine_slices.specs.Slices.{badStop}
-use Rattle.stop_spare.specs.Spare.{taken, spareStop}
-use Rattle.stop_steps.specs.Steps.{isSet, isEmpty, stage, steps}
+use Rattle.stop_spare.specs.Spare.{taken}
+use Rattle.stop_steps.specs.Steps.{isSet, isEmpty, stage}
 use Rattle.stop_steps.specs.Lookup.{HasAll}
 
 abbrev pub AllSet : ℕ → TestSlice → Type 0
@@ -38,10 +35,3 @@ pub record LeftIn (chains : ℕ) (set : List TestSlice) : Type 0 where
 pub record SixMeaning (chains : ℕ) (set : List TestSlice) : Type 0 where
   pub all-taken : (v : ℕ) → v < 2 ^ chains → taken chains set v ≡ true
   pub none-good : NoneGood chains set
-
-pub record RuleMeaning (chains : ℕ) (set : List TestSlice) (answer : Option TestSlice) : Type 0 where
-  pub decided : (stop : TestSlice) → steps chains set ≡ some stop → answer ≡ some stop
-  pub spared : steps chains set ≡ none → LeftIn chains set × (answer ≡ spareStop chains set)
-  pub good : (stop : TestSlice) → answer ≡ some stop → StopMeaning chains set stop
-  pub six : answer ≡ none → SixMeaning chains set
-  pub exactly : (answer ≡ none) ↔ NoneGood chains set
