@@ -14,5 +14,5 @@ pub const LONGEST_INPUT: usize = 169_441;
 pub const LONGEST_OUTPUT: usize = 145_408;
 /// Bytes of stack that are enough for every call: a thread may be made with just that many.
 pub const STACK: usize = 655_360;
-/// Bytes of stack that are enough for the call for a stop slice, which keeps nothing for each slice.
+/// Bytes of stack that are enough for the library's call for a stop slice, which keeps nothing for each slice; what this package's function around it takes comes on top.
 pub const STACK_STOP: usize = 512;

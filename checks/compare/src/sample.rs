@@ -308,7 +308,7 @@ fn stops(random: &mut Random, count: usize) -> Table {
     }
 }
 
-/// The test slices at so many places, as a list.
+/// The test slices at these places, as a list.
 fn test_slices(call: &Call, places: &[usize]) -> String {
     let mut text = String::from("(");
     for &place in places {
@@ -327,7 +327,7 @@ fn left_after(trace: &StopTrace, slices: usize, steps: usize) -> Vec<usize> {
     left
 }
 
-/// A set on which the steps are two or more, and these.
+/// A set that takes two steps or more, and these steps.
 fn several_steps(random: &mut Random) -> (Call, StopTrace) {
     loop {
         let call = stop_set(random);

@@ -2,7 +2,7 @@
 //     frames LIBRARY HEADER
 // LIBRARY is target/staticlib/libseeds.a, HEADER is c/seeds.h, whose SEEDS_STACK must be enough for each entry, and SEEDS_STACK_STOP for seeds_stop.
 // It prints a line for each entry, with the frames that are on the stack at the deepest place, and ends with `N passed, M failed`.
-// What it does not understand it refuses: an indirect call, another change of the stack pointer, code that no way leads to, a function that is nowhere.
+// A bound for an entry that the library does not have is an error. What it does not understand it refuses: an indirect call, another change of the stack pointer, code that no way leads to, a function that is nowhere.
 
 mod disassembly;
 mod effect;
@@ -64,14 +64,26 @@ fn tell(ways: &[(String, Way)], header: &Header) -> (usize, usize) {
     (ways.len() - failed, failed)
 }
 
+/// The entries of a library against a header; how many passed and failed.
+fn check(library: &str, header: &str) -> Result<(usize, usize), String> {
+    let ways = entries(library)?;
+    let stated = Header::read(header)?;
+    let names: Vec<&str> = ways.iter().map(|(name, _)| name.as_str()).collect();
+    match stated.missing(&names) {
+        Some(name) => Err(format!(
+            "{header} has a bound for {name}, which is no entry"
+        )),
+        None => Ok(tell(&ways, &stated)),
+    }
+}
+
 fn main() -> ExitCode {
     let words: Vec<String> = std::env::args().skip(1).collect();
     let [library, header] = &words[..] else {
         println!("frames LIBRARY HEADER");
         return ExitCode::FAILURE;
     };
-    let told = entries(library).and_then(|ways| Ok(tell(&ways, &Header::read(header)?)));
-    let (passed, failed) = told.unwrap_or_else(|why| {
+    let (passed, failed) = check(library, header).unwrap_or_else(|why| {
         println!("FAIL {why}");
         (0, 1)
     });
