@@ -17,10 +17,10 @@ extern "C" {
 #endif
 
 /* The version of this header and of the Rust package; docs/library.md says what stays from one to the next. */
-#define SEEDS_VERSION "0.4.1"
+#define SEEDS_VERSION "0.5.0"
 
-/* Most cells of a register; most chains; most slices of a window, and the greatest depth; most slices of a set, and most seeds
- * of a list. */
+/* Most cells of a register; most chains; the greatest limit of a window, and the greatest depth; most slices of a set, and most
+ * seeds of a list. */
 #define SEEDS_MOST_CELLS 64
 #define SEEDS_MOST_CHAINS 64
 #define SEEDS_LONGEST_WINDOW 256
@@ -41,7 +41,7 @@ enum seeds_cause {
     SEEDS_ACCEPTED = 0,
     SEEDS_REGISTER = 1,      /* cells or taps */
     SEEDS_CHAINS = 2,        /* their number, or a mask */
-    SEEDS_LENGTHS = 3,       /* a depth, a window length, a number of slices or seeds */
+    SEEDS_LENGTHS = 3,       /* depth or limit not 1 to 256, window length not 1 to the limit, a number of slices or seeds */
     SEEDS_TEST_SLICE = 4,    /* a test slice, or two lists unequally long */
     SEEDS_STOP_SLICE = 5,    /* the stop slice */
     SEEDS_ALL_TAKEN = 6,     /* the fully specified slices take up all patterns */
@@ -50,21 +50,26 @@ enum seeds_cause {
     SEEDS_NO_SPACE = 9,      /* the lent buffer is too short */
     SEEDS_SEED_BEYOND = 10,  /* a seed with a bit at or above cells */
     SEEDS_SEED_AT_STOP = 11, /* a seed whose slice 0 shows the stop */
-    SEEDS_SEED_ENDLESS = 12, /* a seed with no stop */
+    SEEDS_SEED_ENDLESS = 12, /* a seed with no stop in slices 0 to the limit */
     SEEDS_LINE = 13,         /* a line out of form or out of order, or text that ends early */
     SEEDS_TOTAL = 14         /* the expanded total differs from slices */
 };
 
 /* A register, by its number of cells and its taps, with the settings of a call. Make it by seeds_settings_of: a version with
- * a setting more has a field more. */
+ * a setting more has a field more.
+ *
+ * The limit is the most slices of a window, 1 to 256. Any other is refused by SEEDS_LENGTHS, with value 0, in every call with
+ * a window, a cutting or an expanding in it: seeds_check_window, seeds_check_set, seeds_check_cubes, seeds_check_list,
+ * seeds_expand, seeds_window, seeds_encode_set, seeds_encode_cubes. seeds_step and seeds_slice do not look at it. */
 typedef struct {
     size_t cells;
     uint64_t taps;
+    size_t limit;
 } seeds_settings;
 
-/* A register, with windows of up to 256 slices. */
+/* A register, with windows of up to 256 slices. For a lower limit set the field: settings.limit = 64. */
 static inline seeds_settings seeds_settings_of(size_t cells, uint64_t taps) {
-    seeds_settings settings = {cells, taps};
+    seeds_settings settings = {cells, taps, SEEDS_LONGEST_WINDOW};
     return settings;
 }
 

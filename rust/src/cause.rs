@@ -24,7 +24,7 @@ pub enum Cause {
 const SHEET: [(Cause, &str); 14] = [
     (Cause::Register, "cells not 1 to 64; taps with a bit at or above cells, or without cell cells-1"),
     (Cause::Chains, "chains not 1 to 64; a mask 0 or with a bit at or above cells"),
-    (Cause::Lengths, "depth or window length not 1 to 256; slices none, above 2,048 or no multiple of depth; more than 2,048 seeds"),
+    (Cause::Lengths, "depth or window limit not 1 to 256; window length not 1 to the limit; slices none, above 2,048 or no multiple of depth; more than 2,048 seeds"),
     (Cause::TestSlice, "a test slice with a bit set where it is unspecified, or beyond the chains; its two lists unequally long"),
     (Cause::StopSlice, "a stop slice with no specified position, or with a bit set where it is unspecified, or beyond the chains"),
     (Cause::AllTaken, "the fully specified slices take up all patterns of the chains, so there is no stop slice"),
@@ -33,7 +33,7 @@ const SHEET: [(Cause, &str); 14] = [
     (Cause::NoSpace, "the lent buffer is too short"),
     (Cause::SeedBeyond, "a seed with a bit at or above cells"),
     (Cause::SeedAtStop, "a seed whose slice 0 shows the stop"),
-    (Cause::SeedEndless, "a seed with no stop in slices 0 to 256"),
+    (Cause::SeedEndless, "a seed with no stop in slices 0 to the window limit"),
     (Cause::Line, "a line out of form or out of order, or text that ends early"),
     (Cause::Total, "the expanded total differs from slices"),
 ];

@@ -4,7 +4,7 @@
 pub const MOST_CELLS: usize = 64;
 /// Most chains.
 pub const MOST_CHAINS: usize = 64;
-/// Most slices of a window, and the greatest depth.
+/// The greatest limit of a window, and the greatest depth.
 pub const LONGEST_WINDOW: usize = 256;
 /// Most slices of a set, and most seeds of a list.
 pub const MOST_SLICES: usize = 2048;

@@ -5,19 +5,44 @@
 // length says, and a buffer that is written must not overlap anything else that is handed in. Nothing checks this:
 // the functions of this package hand in Rust's slices, which are so.
 
-/// A register, by its number of cells and its taps, with the settings of a call. Cell i has weight 2^i. It is made by [`Settings::new`]: a version with a setting more has a field more.
+use crate::LONGEST_WINDOW;
+
+/// A register, by its number of cells and its taps, with the settings of a call: the limit is the most slices of a window. Cell i has weight 2^i. It is made by [`Settings::new`]: a version with a setting more has a field more.
 #[repr(C)]
 #[derive(Clone, Copy, Debug, PartialEq, Eq)]
 #[non_exhaustive]
 pub struct Settings {
     pub cells: usize,
     pub taps: u64,
+    pub limit: usize,
 }
 
 impl Settings {
     /// A register, with windows of up to 256 slices.
     pub const fn new(cells: usize, taps: u64) -> Settings {
-        Settings { cells, taps }
+        Settings {
+            cells,
+            taps,
+            limit: LONGEST_WINDOW,
+        }
+    }
+
+    /// The same register, with windows of up to `limit` slices, 1 to 256. Any other limit is refused by 3 with 0 in every call with a window, a cutting or an expanding in it; a step and a slice do not look at it.
+    ///
+    /// Document 01's window 10, x1 has two slices:
+    /// ```
+    /// use seeds::{window_seed, Machine, Refusal, Settings, TestSlice, TestSlices};
+    /// let stop = TestSlice { specified: 3, bits: 2 };
+    /// let window = TestSlices { specified: &[3, 2], bits: &[1, 2] };
+    /// let seed = |limit| {
+    ///     let settings = Settings::new(3, 6).with_limit(limit);
+    ///     window_seed(Machine::new(settings, &[1, 4]), stop, window)
+    /// };
+    /// assert_eq!(seed(2), Ok(3));
+    /// assert_eq!(seed(1), Err(Refusal::new(3, 0)));
+    /// ```
+    pub const fn with_limit(self, limit: usize) -> Settings {
+        Settings { limit, ..self }
     }
 }
 

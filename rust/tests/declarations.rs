@@ -181,6 +181,13 @@ fn c_functions() {
 }
 
 #[test]
+fn settings_are_made_with_the_longest_window() {
+    let made = "seeds_settings settings = {cells, taps, SEEDS_LONGEST_WINDOW};";
+    assert!(file("c/seeds.h").contains(made), "{made}");
+    assert_eq!(seeds::Settings::new(3, 6).limit, seeds::LONGEST_WINDOW);
+}
+
+#[test]
 fn the_header_has_the_version() {
     let version = format!("#define SEEDS_VERSION \"{}\"", seeds::VERSION);
     assert!(file("c/seeds.h").contains(&version), "{version}");

@@ -35,9 +35,8 @@ fn refused<T: std::fmt::Debug + PartialEq>(
     assert!(out.iter().all(|&entry| entry == UNTOUCHED));
 }
 
-/// Every call over a machine and a set is refused by the number.
-fn all_refused(machine: Machine, number: usize) {
-    assert_eq!(slice(machine, 9), refusal(number, 0));
+/// Every call over a machine with a window, a cutting or an expanding in it is refused by the number.
+fn windows_refused(machine: Machine, number: usize) {
     assert_eq!(check_window(machine, STOP, SET), refusal(number, 0));
     assert_eq!(check_set(machine, STOP, SET), refusal(number, 0));
     assert_eq!(check_cubes(machine, 1, SET), refusal(number, 0));
@@ -46,6 +45,12 @@ fn all_refused(machine: Machine, number: usize) {
     refused(2, number, 0, |out| encode_set(machine, STOP, SET, out));
     refused(2, number, 0, |out| encode_cubes(machine, 1, SET, out));
     refused(2, number, 0, |out| expand(machine, STOP, 2, &[3], out));
+}
+
+/// Every call over a machine is refused by the number.
+fn all_refused(machine: Machine, number: usize) {
+    assert_eq!(slice(machine, 9), refusal(number, 0));
+    windows_refused(machine, number);
 }
 
 #[test]
@@ -130,6 +135,20 @@ fn depth_and_totals() {
     let seeds = [3; MOST_SLICES + 1];
     refused(2, 3, 0, |out| expand(R, STOP, 2, &seeds, out));
     assert_eq!(check_list(R, STOP, 2, usize::MAX), refusal(3, 0));
+}
+
+/// Limits of a window out of range. Causes 1 and 2 come first; a step and a slice have no window.
+#[test]
+fn limits() {
+    for limit in [0, 257, 1 << 32, usize::MAX] {
+        let settings = R.settings.with_limit(limit);
+        windows_refused(Machine::new(settings, R.masks), 3);
+        windows_refused(Machine::new(settings, &[1, 8]), 2);
+        let cells = Settings::new(0, 6).with_limit(limit);
+        windows_refused(Machine::new(cells, R.masks), 1);
+        assert_eq!(step(settings, 7), Ok(6));
+        assert_eq!(slice(Machine::new(settings, R.masks), 6), Ok(2));
+    }
 }
 
 #[test]

@@ -1,4 +1,5 @@
 -- The encoding of cubes with their stop slice, and what its answer means.
 pub mod Cubes
 pub mod Meaning
+pub mod Limits
 pub mod Formed

@@ -2,3 +2,4 @@
 pub mod Seeds
 pub mod Meaning
 pub mod Calls
+pub mod Limits

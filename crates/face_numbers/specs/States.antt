@@ -1,4 +1,4 @@
--- The calls that take a state: one step of the register, and its slice (document 01, "Register and chains"; causes 1, 2 and 10 of its refusal sheet).
+-- The calls that take a state: one step of the register, and its slice (document 01, "Register and chains"; causes 1, 2 and 10 of its refusal sheet). They have no window: the limit of the settings is not judged.
 --     stateAnswer v s, sliceAnswer v s     number 0 with the state or the slice s, or the number and value of the refusal, and 0
 --     noState c, noSlice c                 those that are refused
 --     registerTest, chainsTest, stateTest     causes 1, 2 and 10; the state is the one seed that is handed in, so its place is 0

@@ -1,14 +1,13 @@
 -- Numbers at the boundary: what an entry hands to the definitions.
---     settingsOf s                  the settings of the call: windows of up to 256 slices
+--     settingsOf s                  the settings of the call: its cells, its taps and its limit
 --     testSliceOf specified bits    the test slice or stop slice of two numbers
 use Prim.Native.Nat.{ℕ}
-use Rattle.machine_settings.specs.Machine.{base}
 use Rattle.machine_settings.specs.declared.Settings as called
 use Rattle.machine_slices.specs.declared.TestSlice.{TestSlice}
 use Rattle.face_values.specs.declared.Settings.{Settings}
 
 abbrev pub settingsOf : Settings → called.Settings
-settingsOf s = base (s .cells) (s .taps)
+settingsOf s = record { cells = s .cells; taps = s .taps; limit = s .limit }
 
 abbrev pub testSliceOf : ℕ → ℕ → TestSlice
 testSliceOf specified bits = record { specified = specified; bits = bits }

@@ -2,16 +2,21 @@
 ghost use mathlib.Core.Path.{_≡_};
 ghost use Rattle.face_values.specs.Values.{settingsOf};
 
-// The register and the settings of a call, as C and Rust hand them in: a setting more is a field more.
+// The register and the settings of a call, as C and Rust hand them in: its cells and taps, and the most slices of a window. A setting more is a field more.
 #[repr(C)]
 pub struct Settings {
     pub cells: usize,
     pub taps: u64,
+    pub limit: usize,
 }
 
-// The settings of a call, with windows of up to 256 slices.
+// The settings of a call: cells, taps and limit as they are handed in, not yet judged.
 pub fn settings_of(settings: Settings) -> machine_settings::Settings
     ensures { λ r. ⌜ r ≡ settingsOf settings ⌝ }
 {
-    machine_settings::base(settings.cells, settings.taps)
+    machine_settings::Settings {
+        cells: settings.cells,
+        taps: settings.taps,
+        limit: settings.limit,
+    }
 }

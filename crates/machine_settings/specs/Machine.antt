@@ -1,6 +1,6 @@
--- Register and chains together, and the settings of a call (document 01, "Register and chains", and "Covering and cutting" on the longest window).
---     longestWindow             the longest window of the base, in slices
---     base cells taps           the settings of the base: windows of up to 256 slices
+-- Register and chains together, and the settings of a call (document 01, "Register and chains", and "Covering and cutting" on the longest window; document 02, R-3).
+--     defaultLimit              the most slices of a window where no limit is given
+--     base cells taps           the settings of document 01: no limit is given
 --     registerOf g              the register of the settings, by its cells and taps
 --     Machine                   what covering, cutting and expanding see of register and chains: the states are the numbers below `states`; the slice and the next state of each
 --     machineWith               the machine of a register, its chains and its inverted chains
@@ -13,11 +13,11 @@ use Rattle.machine_register.specs.declared.Register.{Register}
 use Rattle.machine_chains.specs.Chains.{slice}
 use Rattle.machine_settings.specs.declared.Settings.{Settings}
 
-abbrev pub longestWindow : ℕ
-longestWindow = 256
+abbrev pub defaultLimit : ℕ
+defaultLimit = 256
 
 abbrev pub base : ℕ → ℕ → Settings
-base cells taps = record { cells = cells; taps = taps; limit = longestWindow }
+base cells taps = record { cells = cells; taps = taps; limit = defaultLimit }
 
 abbrev pub registerOf : Settings → Register
 registerOf g = record { cells = g .cells; taps = g .taps }

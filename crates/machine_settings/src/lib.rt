@@ -1,25 +1,16 @@
-// The settings of a call and the slice of a state under them (document 01, "Register and chains", and "Covering and cutting" on the longest window).
-use machine_register::Register;
+// The settings of a call and the slice of a state under them (document 01, "Register and chains", and "Covering and cutting" on the longest window; document 02, R-3).
 ghost use mathlib.Core.Path.{_≡_};
 ghost use lib.ListN.{take};
-ghost use Rattle.machine_settings.specs.Machine.{base as baseOf, machine};
+ghost use Rattle.machine_settings.specs.Machine.{machine};
+
+// The most slices of a window where no limit is given.
+pub const DEFAULT_LIMIT: usize = 256;
 
 // The settings of a call, as they are handed in and not yet judged: cells and taps of its register, and the most slices of a window.
 pub struct Settings {
     pub cells: usize,
     pub taps: u64,
     pub limit: usize,
-}
-
-// The settings of the base: windows of up to 256 slices.
-pub fn base(cells: usize, taps: u64) -> Settings
-    ensures { λ r. ⌜ r ≡ baseOf cells taps ⌝ }
-{
-    Settings {
-        cells,
-        taps,
-        limit: Register::LONGEST_WINDOW,
-    }
 }
 
 // The slice of a state under the first 64 masks: the one place where a slice is formed. In the base no chain is inverted, so nothing of the settings counts.

@@ -3,3 +3,4 @@ pub mod Ahead
 pub mod Counting
 pub mod Enough
 pub mod Values
+pub mod Heads

@@ -2,6 +2,7 @@
 --     mostNumbers       how many numbers the list has that keeps the entries
 --     kept-entries      the list keeps the entries of the reading
 --     Few, few-numbers      so many chain, slice and seed lines at most
+--     head-few          so many bytes at most before depth, in a sheet that is read through
 --     call-whole        what a call leaves whose text is read through
 --     call-refused      and one whose text is refused
 -- Assumes nothing.
@@ -19,12 +20,16 @@ use Rattle.text_entries.specs.Said.{numbersFor}
 use Rattle.text_entries.specs.Flat.{flat, entriesIn}
 use Rattle.text_entries.specs.declared.Part.the-variants.{First}
 use Rattle.text_entries.proofs.Kept.{kept-back}
+use Rattle.text_split.specs.Text.{split}
+use Rattle.text_head.specs.Before.{linesBefore}
 use Rattle.text_order.specs.declared.Kind.{Kind}
+use Rattle.text_order.specs.declared.Kind.the-variants.{Sheet}
 use Rattle.text_ending.specs.declared.Scanned.{Scanned}
 use Rattle.text_ending.specs.declared.Scanned.the-variants.{Whole, Refused}
 use Rattle.text_reading.specs.Reading.{readingOf}
 use Rattle.text_bounds.proofs.Counting.{lines-few, numbers-few}
 use Rattle.text_bounds.proofs.Values.{lines-value}
+use Rattle.text_bounds.proofs.Heads.{head-short}
 use Rattle.text_replies.specs.declared.Answer.{Answer}
 use Rattle.text_replies.specs.declared.Answer.the-variants as answers
 use Rattle.text_replies.proofs.Answering.{Leaves, refused-leaves}
@@ -32,7 +37,7 @@ use Rattle.text_calls.specs.Texts.{replyOf, concluded, replyTo, callOf}
 
 -- How many numbers the list has.
 abbrev mostNumbers : ℕ
-mostNumbers = 6351
+mostNumbers = 6354
 
 module _ (kind : Kind) (s : List ℕ) where
   pub kept-entries : (l : List ℕ) → l ≡ sets (replicate mostNumbers count) 0 (flat (readingOf kind s .entries)) → entriesIn l ≡ readingOf kind s .entries
@@ -45,8 +50,11 @@ module _ (kind : Kind) (s : List ℕ) where
   unfolding most rowAt rows
   few-numbers = (numbers-few kind s key.Chain First, numbers-few kind s key.Slice First, numbers-few kind s key.Seed First)
 
+  pub head-few : readingOf kind s .end ≡ Whole → kind ≡ Sheet → length (linesBefore key.Depth (split s)) ≤ 65536
+  head-few w e = omega (arith, head-short s (rw e at w))
+
   module _ (out : List ℕ) (r : Scanned) (e : r ≡ readingOf kind s .end) where
-    pub call-whole : r ≡ Whole → (a : Answer) (after : List ℕ) → Leaves (replyOf kind (readingOf kind s .entries)) out a after → (a ≡ callOf kind s out .answer) × (after ≡ callOf kind s out .buffer)
+    pub call-whole : r ≡ Whole → (a : Answer) (after : List ℕ) → Leaves (replyOf kind s (readingOf kind s .entries)) out a after → (a ≡ callOf kind s out .answer) × (after ≡ callOf kind s out .buffer)
     unfolding callOf replyTo concluded
     call-whole w a after l = rw (sym e ∙ w) l
 

@@ -34,11 +34,11 @@ module _ (P : ℕ → Type 0) where
 line-on-sheet : (c : LineCause) (n : ℕ) → OnSheet (refusedAt c n .number)
 line-on-sheet c n = on-sheet (causeOf c 0)
 
-of-on-sheet : (kind : Kind) (es : List Entry) → RefusedBy OnSheet (replyOf kind es)
+of-on-sheet : (kind : Kind) (s : List ℕ) (es : List Entry) → RefusedBy OnSheet (replyOf kind s es)
 unfolding sheetReply encoded seedListReply expanded
-of-on-sheet Sheet es = list-refused OnSheet _ _ _ _ _ (λ c e. on-sheet c)
-of-on-sheet SeedList es = slices-refused OnSheet _ _ _ (λ c e. on-sheet c)
+of-on-sheet Sheet s es = list-refused OnSheet _ _ _ _ _ (λ c e. on-sheet c)
+of-on-sheet SeedList s es = slices-refused OnSheet _ _ _ (λ c e. on-sheet c)
 
 pub reply-on-sheet : (kind : Kind) (s : List ℕ) → RefusedBy OnSheet (replyTo kind s)
 unfolding replyTo
-reply-on-sheet kind s = concluded-refused OnSheet _ _ (reading-refused OnSheet line-on-sheet kind s) (of-on-sheet kind (readingOf kind s .entries))
+reply-on-sheet kind s = concluded-refused OnSheet _ _ (reading-refused OnSheet line-on-sheet kind s) (of-on-sheet kind s (readingOf kind s .entries))

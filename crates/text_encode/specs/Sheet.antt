@@ -1,6 +1,6 @@
 -- The reply to what a sheet says (document 01, "Sheet and seed list").
 --     specifiedOf es, bitsOf es     the specified positions and the bits that the slice lines say
---     sheetReply es                 the reply to the entries of a sheet
+--     sheetReply head es            the reply to the entries of a sheet, with the lines head before depth
 use mathlib.Core.List.{List}
 use Prim.Native.Nat.{ℕ}
 use Rattle.text_keys.specs.declared.Key.the-variants as key
@@ -15,5 +15,5 @@ specifiedOf es = numbersFor key.Slice es
 abbrev pub bitsOf : List Entry → List ℕ
 bitsOf es = bitsFor key.Slice es
 
-unfoldable pub sheetReply : List Entry → Reply
-sheetReply es = encoded (settingsOf es) (masksOf es) (numberFor key.Depth es) (specifiedOf es) (bitsOf es)
+unfoldable pub sheetReply : List ℕ → List Entry → Reply
+sheetReply head es = encoded head (settingsOf es) (masksOf es) (numberFor key.Depth es) (specifiedOf es) (bitsOf es)

@@ -11,12 +11,12 @@ ghost use Rattle.text_entries.specs.Said.{numbersFor};
 ghost use Rattle.text_encode.specs.Sheet.{sheetReply};
 ghost use Rattle.text_replies.specs.Calls.{called};
 
-// Encodes what the entries of a sheet say.
-// An inner function: its callers show that there are at most 64 chain lines and 2,048 slice lines.
-pub fn encode_entries(entries: &[u64], out: &mut [u8]) -> Answer
-    requires { ⌜ (length (numbersFor key.Chain (entriesIn (now entries))) ≤ 64) × (length (numbersFor key.Slice (entriesIn (now entries))) ≤ 2048) ⌝ }
-    ensures answer { λ r. ⌜ r ≡ called (sheetReply (entriesIn (now (entries .entry)))) (now (out .entry)) .answer ⌝ }
-    ensures buffer { λ _. ⌜ now (out .exit) ≡ called (sheetReply (entriesIn (now (entries .entry)))) (now (out .entry)) .buffer ⌝ }
+// Encodes what the entries of a sheet say, with its lines before depth.
+// An inner function: its callers show that these have at most 65,536 bytes, and that there are at most 64 chain lines and 2,048 slice lines.
+pub fn encode_entries(head: &[u8], entries: &[u64], out: &mut [u8]) -> Answer
+    requires { ⌜ (length (now head) ≤ 65536) × (length (numbersFor key.Chain (entriesIn (now entries))) ≤ 64) × (length (numbersFor key.Slice (entriesIn (now entries))) ≤ 2048) ⌝ }
+    ensures answer { λ r. ⌜ r ≡ called (sheetReply (now (head .entry)) (entriesIn (now (entries .entry)))) (now (out .entry)) .answer ⌝ }
+    ensures buffer { λ _. ⌜ now (out .exit) ≡ called (sheetReply (now (head .entry)) (entriesIn (now (entries .entry)))) (now (out .entry)) .buffer ⌝ }
 {
     let mut masks = [0u64; machine_chains::MOST_CHAINS];
     let mut specified = [0u64; refusal_lengths::MOST_SLICES];
@@ -26,6 +26,7 @@ pub fn encode_entries(entries: &[u64], out: &mut [u8]) -> Answer
     text_entries::numbers(entries, Key::Slice, Part::Second, &mut bits);
     let depth = text_entries::number(entries, Key::Depth, Part::First, 0);
     text_encode_said::encode_said(
+        head,
         text_entries::settings(entries),
         &masks[..chains],
         depth as usize,

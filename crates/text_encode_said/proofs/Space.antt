@@ -53,9 +53,9 @@ encode-long g masks depth specified bits out = go (judged (cubesFaults g masks d
     go (verdict.Refused c) = refl
     go verdict.WellFormed = stopped-long g masks specified bits out (stopFor (length masks) (paired specified bits))
 
-pub list-within : (g : Settings) (masks : List ℕ) (slices : ℕ) (buffer : List ℕ) (a : Encoded) → length masks ≤ 64 → length buffer ≡ 2048 → Within mostText (listReply g masks slices buffer a)
+pub list-within : (head : List ℕ) (chains slices : ℕ) (buffer : List ℕ) (a : Encoded) → length head ≤ 65536 → chains ≤ 64 → length buffer ≡ 2048 → Within mostText (listReply head chains slices buffer a)
 unfolding listReply
-list-within g masks slices buffer (encodings.Seeds stop n) h e =
+list-within head chains slices buffer (encodings.Seeds stop n) l h e =
     let few : length (take n buffer) ≤ 2048 = omega (arith, length-take n buffer) in
-    omega (arith, list-length g masks stop slices (take n buffer) h few, text-value)
-list-within g masks slices buffer (encodings.Refused c) h e = tt
+    omega (arith, list-length head chains stop slices (take n buffer) l h few, text-value)
+list-within head chains slices buffer (encodings.Refused c) l h e = tt

@@ -1,4 +1,4 @@
--- What the lines of a text say, by their keys (document 01, "Sheet and seed list").
+-- What the lines of a text say, by their keys (document 01, "Sheet and seed list"; document 02, R-3).
 --     keyIs k e           the entry e has the key k
 --     partOf p e          the first or the second number of the entry e
 --     picked k p es       those of the entries of es with the key k, in order
@@ -7,13 +7,14 @@
 --     masksOf es          the masks that the chain lines say
 --     numberFor k es      the number for a key that has one line
 --     sliceFor k es       the slice for such a key
+--     limitOf es          the limit of windows
 --     settingsOf es       the settings of the call
 use mathlib.Core.Bool.{Bool, true, false}
 use mathlib.Core.List.{List, [], _∷_}
 use Prim.Native.Nat.{ℕ}
 use lib.ListN.{getD}
 use Rattle.machine_settings.specs.declared.Settings.{Settings}
-use Rattle.machine_settings.specs.Machine.{base}
+use Rattle.machine_settings.specs.Machine.{defaultLimit}
 use Rattle.machine_slices.specs.declared.TestSlice.{TestSlice}
 use Rattle.text_keys.specs.Keys.{same}
 use Rattle.text_keys.specs.declared.Key.{Key}
@@ -48,6 +49,9 @@ numberFor k es = getD (numbersFor k es) 0 0
 abbrev pub sliceFor : Key → List Entry → TestSlice
 sliceFor k es = record { specified = numberFor k es; bits = getD (bitsFor k es) 0 0 }
 
--- Windows have up to 256 slices.
+-- Without a window line it is 256.
+abbrev pub limitOf : List Entry → ℕ
+limitOf es = getD (numbersFor key.Window es) 0 defaultLimit
+
 abbrev pub settingsOf : List Entry → Settings
-settingsOf es = base (numberFor key.Cells es) (numberFor key.Taps es)
+settingsOf es = record { cells = numberFor key.Cells es; taps = numberFor key.Taps es; limit = limitOf es }

@@ -8,6 +8,9 @@ ghost use lib.Seq.{sets};
 ghost use Rattle.text_entries.specs.Flat.{words, past, offset as offsetOf, entriesIn};
 ghost use Rattle.text_entries.specs.Said.{picked, settingsOf};
 
+// The limit of windows without a window line.
+const DEFAULT_LIMIT: u64 = machine_settings::DEFAULT_LIMIT as u64;
+
 // Which of the two numbers of a line.
 pub enum Part {
     First,
@@ -81,5 +84,10 @@ pub fn settings(entries: &[u64]) -> Settings
 {
     let cells = number(entries, Key::Cells, Part::First, 0);
     let taps = number(entries, Key::Taps, Part::First, 0);
-    machine_settings::base(cells as usize, taps)
+    let limit = number(entries, Key::Window, Part::First, DEFAULT_LIMIT);
+    Settings {
+        cells: cells as usize,
+        taps,
+        limit: limit as usize,
+    }
 }

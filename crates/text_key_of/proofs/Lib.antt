@@ -2,3 +2,4 @@
 pub mod Starting
 pub mod Naming
 pub mod Apart
+pub mod Names

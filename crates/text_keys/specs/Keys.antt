@@ -40,13 +40,14 @@ pub record Row : Type 0 where
 abbrev pub row : Key → String → Notation → ℕ → ℕ → Range → LineCause → Row
 row k s n l m r c = record { key = k; name = bytes s; notation = n; longest = l; most = m; range = r; cause = c }
 
--- A register of 1 to 64 cells, 1 to 64 chains, depths up to 256, totals up to 2,048; one chain line for each chain, and up to 2,048 slice or seed lines.
+-- A register of 1 to 64 cells, 1 to 64 chains, windows and depths up to 256, totals up to 2,048; one chain line for each chain, and up to 2,048 slice or seed lines.
 unfoldable pub rows : List Row
 rows =
     row key.Cells "cells=" Decimal 80 1 (Between 1 64) Register
     ∷ row key.Taps "taps=" Hexadecimal 80 1 Taps Register
     ∷ row key.Chains "chains=" Decimal 80 1 (Between 1 64) Chains
     ∷ row key.Chain "chain=" Hexadecimal 80 64 Mask Chains
+    ∷ row key.Window "window=" Decimal 80 1 (Between 1 256) Lengths
     ∷ row key.Depth "depth=" Decimal 80 1 (Between 1 256) Lengths
     ∷ row key.Slice "slice=" Chainwise 80 2048 Any Lengths
     ∷ row key.Stop "stop=" Chainwise 80 1 Specified StopSlice
@@ -55,7 +56,7 @@ rows =
     ∷ []
 
 abbrev pub count : ℕ
-count = 9
+count = 10
 
 abbrev pub blank : Row
 blank = row key.Cells "" Decimal 0 0 Any Lengths
@@ -68,11 +69,12 @@ rank key.Cells = 0
 rank key.Taps = 1
 rank key.Chains = 2
 rank key.Chain = 3
-rank key.Depth = 4
-rank key.Slice = 5
-rank key.Stop = 6
-rank key.Slices = 7
-rank key.Seed = 8
+rank key.Window = 4
+rank key.Depth = 5
+rank key.Slice = 6
+rank key.Stop = 7
+rank key.Slices = 8
+rank key.Seed = 9
 
 abbrev pub rowOf : Key → Row
 rowOf k = rowAt (rank k)

@@ -9,6 +9,7 @@ pub enum Key {
     Taps,
     Chains,
     Chain,
+    Window,
     Depth,
     Slice,
     Stop,
@@ -45,7 +46,7 @@ pub enum LineCause {
     Register,
     // Cause 2: chains or a mask.
     Chains,
-    // Cause 3: depth or slices, or a slice or seed line too many.
+    // Cause 3: window, depth or slices, or a slice or seed line too many.
     Lengths,
     // Cause 5: a stop slice with no specified position.
     StopSlice,
@@ -57,14 +58,21 @@ pub struct Spelling(pub Key, pub [u8; 7], pub usize, pub Notation, pub usize);
 // What bounds the lines of a key: how many may stand in a row, which numbers they may have, and the cause of what is beyond.
 pub struct Bounds(pub usize, pub Range, pub LineCause);
 
+// The greatest limit of a window.
+const MOST_LIMIT: usize = 256;
+
+// The greatest depth of a cube.
+const MOST_DEPTH: usize = 256;
+
 // How many keys there are.
-pub const COUNT: usize = 9;
+pub const COUNT: usize = 10;
 
 const SPELLINGS: [Spelling; COUNT] = [
     Spelling(Key::Cells, *b"cells= ", 6, Notation::Decimal, 80),
     Spelling(Key::Taps, *b"taps=  ", 5, Notation::Hexadecimal, 80),
     Spelling(Key::Chains, *b"chains=", 7, Notation::Decimal, 80),
     Spelling(Key::Chain, *b"chain= ", 6, Notation::Hexadecimal, 80),
+    Spelling(Key::Window, *b"window=", 7, Notation::Decimal, 80),
     Spelling(Key::Depth, *b"depth= ", 6, Notation::Decimal, 80),
     Spelling(Key::Slice, *b"slice= ", 6, Notation::Chainwise, 80),
     Spelling(Key::Stop, *b"stop=  ", 5, Notation::Chainwise, 80),
@@ -77,7 +85,8 @@ const BOUNDS: [Bounds; COUNT] = [
     Bounds(1, Range::Taps, LineCause::Register),
     Bounds(1, Range::Between(1, 64), LineCause::Chains),
     Bounds(64, Range::Mask, LineCause::Chains),
-    Bounds(1, Range::Between(1, 256), LineCause::Lengths),
+    Bounds(1, Range::Between(1, MOST_LIMIT), LineCause::Lengths),
+    Bounds(1, Range::Between(1, MOST_DEPTH), LineCause::Lengths),
     Bounds(2048, Range::Any, LineCause::Lengths),
     Bounds(1, Range::Specified, LineCause::StopSlice),
     Bounds(1, Range::Between(1, 2048), LineCause::Lengths),
@@ -93,11 +102,12 @@ pub fn rank(key: Key) -> usize
         Key::Taps => 1,
         Key::Chains => 2,
         Key::Chain => 3,
-        Key::Depth => 4,
-        Key::Slice => 5,
-        Key::Stop => 6,
-        Key::Slices => 7,
-        Key::Seed => 8,
+        Key::Window => 4,
+        Key::Depth => 5,
+        Key::Slice => 6,
+        Key::Stop => 7,
+        Key::Slices => 8,
+        Key::Seed => 9,
     }
 }
 

@@ -9,7 +9,6 @@ use lib.ListN.{length, drop, length-replicate}
 use lib.Seq.{take-append-seam}
 use Rattle.refusal_causes.specs.declared.Cause.{Cause}
 use Rattle.refusal_causes.specs.declared.Cause.the-variants as cause
-use Rattle.refusal_causes.specs.declared.Refusal.{Refusal}
 use Rattle.refusal_causes.specs.Outcome.{Outcome, refuse, fill}
 use Rattle.refusal_causes.specs.Sheet.{refusalOf}
 use Rattle.refusal_causes.proofs.Outcome.{fill-whole}
@@ -22,9 +21,7 @@ use Rattle.machine_slices.specs.declared.TestSlice.{TestSlice}
 use Rattle.expander_meaning.specs.Expanding.{ran, failed, totalled, expanding, expandList}
 use Rattle.text_keys.specs.declared.Key.the-variants as key
 use Rattle.text_order.specs.declared.Kind.the-variants.{SeedList}
-use Rattle.text_ending.specs.declared.Scanned.the-variants as scanned
 use Rattle.text_entries.specs.Said.{masksOf, sliceFor, settingsOf}
-use Rattle.text_reading.specs.Reading.{readingOf}
 use Rattle.text_expand_said.specs.Expanded.{slicesReply, expanded}
 use Rattle.text_expand.specs.List.{seedsOf, seedListReply}
 use Rattle.text_write_slices.specs.Slices.{sliceLines}

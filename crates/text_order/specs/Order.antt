@@ -1,4 +1,4 @@
--- The order of lines (document 01, "Sheet and seed list").
+-- The order of lines (document 01, "Sheet and seed list"; document 02, R-3).
 --     after kind k         the keys that may stand after the lines of the key k
 --     missing p            chain lines are missing
 --     mayStand kind p      the keys that may stand at the place p
@@ -17,18 +17,20 @@ use Rattle.text_order.specs.declared.Kind.{Kind}
 use Rattle.text_order.specs.declared.Kind.the-variants.{Sheet, SeedList}
 use Rattle.text_place.specs.declared.Place.{Place}
 
--- A sheet has depth and then slice lines, a seed list stop and slices and then seed lines; any number of them.
+-- One window line may follow the chain lines (document 02, R-3). A sheet has depth and then slice lines, a seed list stop and slices and then seed lines; any number of them.
 unfoldable pub after : Kind → Key → List Key
 after kind key.Cells = key.Taps ∷ []
 after kind key.Taps = key.Chains ∷ []
 after kind key.Chains = key.Chain ∷ []
-after Sheet key.Chain = key.Depth ∷ []
+after Sheet key.Chain = key.Window ∷ key.Depth ∷ []
+after Sheet key.Window = key.Depth ∷ []
 after Sheet key.Depth = key.Slice ∷ []
 after Sheet key.Slice = key.Slice ∷ []
 after Sheet key.Stop = []
 after Sheet key.Slices = []
 after Sheet key.Seed = []
-after SeedList key.Chain = key.Stop ∷ []
+after SeedList key.Chain = key.Window ∷ key.Stop ∷ []
+after SeedList key.Window = key.Stop ∷ []
 after SeedList key.Depth = []
 after SeedList key.Slice = []
 after SeedList key.Stop = key.Slices ∷ []

@@ -21,15 +21,17 @@ const CHAINS: u64 = 1 << 2;
 
 const CHAIN: u64 = 1 << 3;
 
-const DEPTH: u64 = 1 << 4;
+const WINDOW: u64 = 1 << 4;
 
-const SLICE: u64 = 1 << 5;
+const DEPTH: u64 = 1 << 5;
 
-const STOP: u64 = 1 << 6;
+const SLICE: u64 = 1 << 6;
 
-const SLICES: u64 = 1 << 7;
+const STOP: u64 = 1 << 7;
 
-const SEED: u64 = 1 << 8;
+const SLICES: u64 = 1 << 8;
+
+const SEED: u64 = 1 << 9;
 
 // The keys that may stand after the lines of a key, in a sheet and in a seed list; a row a key, as in the table of keys.
 pub struct Followers(pub u64, pub u64);
@@ -38,6 +40,7 @@ const AFTER: [Followers; text_keys::COUNT] = [
     Followers(TAPS, TAPS),
     Followers(CHAINS, CHAINS),
     Followers(CHAIN, CHAIN),
+    Followers(WINDOW | DEPTH, WINDOW | STOP),
     Followers(DEPTH, STOP),
     Followers(SLICE, 0),
     Followers(SLICE, 0),

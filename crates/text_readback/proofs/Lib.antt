@@ -5,5 +5,8 @@ pub mod Splitting
 pub mod Forms
 pub mod Lines
 pub mod Runs
+pub mod Picked
+pub mod Chains
+pub mod Heads
 pub mod Whole
 pub mod Said

@@ -1,31 +1,26 @@
--- The chain lines and the seed lines of a list, in front of a text that is read through.
+-- The seed lines of a list.
 --     placeAt k r cells chains     the place after r lines with the key k
 --     accepted-at      a line that may stand there, is none too many of its key, and has its number in range, is accepted
---     mask-word        a mask that is not refused is a word
---     masks-read       the chain lines from a place on
 --     seeds-read       the seed lines from a place on
 -- Assumes nothing.
 use mathlib.Core.Bool.{true, false}
 use mathlib.Core.Path.{_≡_, refl, _∙_}
-use mathlib.Core.List.{List, [], _∷_, _++_, map, append-assoc}
+use mathlib.Core.List.{List, [], _∷_, map}
 use Prim.Native.Nat.{ℕ, _+_, _≤_, _<_}
 use native.Mathlib.Omega.{arith}
-use borrow.Author.Tests.{lt-ltb, le-ltb, ne-eqb}
-use lib.Dec.{eqb}
+use borrow.Author.Tests.{ne-eqb}
 use lib.ListN.{length}
 use Rattle.words_bounded.specs.Bounded.{any}
 use Rattle.words_bounded.proofs.Tests.{neither}
 use Rattle.words_gf2.specs.Words.{beyond}
-use Rattle.words_gf2.proofs.Digits.{no-beyond, beyond-wide}
-use Rattle.machine_chains.specs.Chains.{badMask}
 use Rattle.text_keys.specs.Keys.{rows, rowAt, name, same, notation, most, range}
 use Rattle.text_keys.specs.declared.Key.{Key}
 use Rattle.text_keys.proofs.Table.{same-self}
 use Rattle.text_keys.specs.declared.Key.the-variants as key
 use Rattle.text_lines.specs.Form.{entry}
 use Rattle.text_lines.specs.declared.Entry.{Entry}
-use Rattle.text_order.specs.Order.{after, missing, mayStand, among, inOrder, mayEnd}
-use Rattle.text_order.proofs.Standing.{missing-more, missing-none, stand-chain, stand-after}
+use Rattle.text_order.specs.Order.{after, among, inOrder, mayEnd}
+use Rattle.text_order.proofs.Standing.{missing-none, stand-after}
 use Rattle.text_order.specs.declared.Kind.{Kind}
 use Rattle.text_order.specs.declared.Kind.the-variants.{SeedList}
 use Rattle.text_place.specs.Places.{runOf, moved}
@@ -43,47 +38,6 @@ placeAt k r cells chains = record { last = k; run = r; cells = cells; chains = c
 
 pub accepted-at : (kind : Kind) (p : Place) (e : Entry) → inOrder kind p (e .key) ≡ true → runOf p (e .key) < most (e .key) → outside p (range (e .key)) (e .first) ≡ false → Accepted kind p e
 accepted-at kind p e o f r = record { order = o; ranges = range-own p (e .key) (e .first) f ∙ r }
-
-module _ (cells chains : ℕ) where
-  mask-word : (m : ℕ) → cells ≤ 64 → badMask cells m ≡ false → beyond 64 m ≡ false
-  unfolding badMask
-  mask-word m few b = beyond-wide cells 64 m few (no-beyond cells m (neither (eqb m 0) (beyond cells m) b .1))
-
-  module _ (r : ℕ) (pos : 0 < r) where
-    -- The place after r chain lines.
-    abbrev here : Place
-    here = placeAt key.Chain r cells chains
-
-    chain-next : r < chains → inOrder SeedList here key.Chain ≡ true
-    unfolding inOrder among same
-    chain-next h = rw (stand-chain here SeedList (ne-eqb r 0 (λ e. omega arith)) (missing-more here refl ∙ lt-ltb r chains h))
-
-    pub stop-next : r ≡ chains → inOrder SeedList here key.Stop ≡ true
-    unfolding inOrder among same after
-    stop-next e = rw (stand-after here SeedList (ne-eqb r 0 (λ z. omega arith)) (missing-more here refl ∙ le-ltb r chains (omega arith)))
-
-  module _ (few : cells ≤ 64) (some : 1 ≤ chains) (most-chains : chains ≤ 64) (t : List ℕ) (es : List Entry) (next : Reads SeedList (placeAt key.Chain chains cells chains) t es) where
-    more-masks : (ms : List ℕ) (r : ℕ) → 0 < r → r + length ms ≡ chains → any (badMask cells) ms ≡ false
-        → Reads SeedList (placeAt key.Chain r cells chains) (numberLines 16 (name key.Chain) ms ++ t) (map (λ m. entry key.Chain m 0) ms ++ es)
-    unfolding numberLines numberLine any written value notation range most rowAt rows outside runOf moved same
-    more-masks [] r pos c b = let e : r ≡ chains = omega arith in rw e next
-    more-masks (m ∷ ms) r pos c b =
-        let a = neither (badMask cells m) (any (badMask cells) ms) b in
-        let p = placeAt key.Chain r cells chains in
-        rw (append-assoc (numberLine 16 (name key.Chain) m) (numberLines 16 (name key.Chain) ms) t)
-        (line-reads SeedList p (entry key.Chain m 0) (accepted-at SeedList p (entry key.Chain m 0) (chain-next r pos (omega arith)) (omega arith) (a .0)) (mask-word m few (a .0), refl) _ _ (more-masks ms (r + 1) (omega arith) (omega arith) (a .1)))
-
-    pub masks-read : (ms : List ℕ) → length ms ≡ chains → any (badMask cells) ms ≡ false
-        → Reads SeedList (placeAt key.Chains 1 cells chains) (numberLines 16 (name key.Chain) ms ++ t) (map (λ m. entry key.Chain m 0) ms ++ es)
-    unfolding numberLines numberLine any written value notation range most rowAt rows outside runOf moved same inOrder mayStand missing after among
-    masks-read [] c b = absurd (omega arith)
-    masks-read (m ∷ ms) c b =
-        let a = neither (badMask cells m) (any (badMask cells) ms) b in
-        let p = placeAt key.Chains 1 cells chains in
-        rw (append-assoc (numberLine 16 (name key.Chain) m) (numberLines 16 (name key.Chain) ms) t)
-        (line-reads SeedList p (entry key.Chain m 0) (accepted-at SeedList p (entry key.Chain m 0) refl (omega arith) (a .0)) (mask-word m few (a .0), refl) _ _ (more-masks ms 1 (omega arith) (omega arith) (a .1)))
-
--- ---- seed lines
 
 -- After a seed line another may stand.
 seed-next : (p : Place) (v : ℕ) → inOrder SeedList (moved p key.Seed v) key.Seed ≡ true

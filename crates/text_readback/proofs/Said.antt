@@ -1,88 +1,80 @@
--- What the entries of a seed list say, by their keys, is what the list was written of.
---     picked-append      the picked of two lists, one after the other
---     picked-none, picked-all      of lines with one key none is picked, or all are
---     picked-parts, picked-between      the picked of a seed list's entries after the first three, and those of a key with one line among them
---     masks-back, seeds-back, cells-back, taps-back, slices-back, stop-back      the numbers by their keys
+-- What the entries of the seed list say, by their keys: for the lines that are repeated what the sheet's own say, and for its own lines what they were written of.
+--     settings-back, masks-back      what the sheet says before depth
+--     seeds-back, slices-back, stop-back      the list's own numbers
 -- Assumes nothing.
-use mathlib.Core.Bool.{Bool, true, false}
-use mathlib.Core.Path.{_≡_, refl, ap, ap₂, _∙_}
-use mathlib.Core.List.{List, [], _∷_, _++_, map, append-nil}
+use mathlib.Core.Bool.{true, false}
+use mathlib.Core.Path.{_≡_, refl, sym, ap, ap₂, _∙_}
+use mathlib.Core.List.{List, [], _++_}
 use Prim.Native.Nat.{ℕ}
 use lib.ListN.{getD}
+use Rattle.machine_settings.specs.Machine.{defaultLimit}
 use Rattle.machine_slices.specs.declared.TestSlice.{TestSlice}
 use Rattle.text_keys.specs.Keys.{same}
 use Rattle.text_keys.specs.declared.Key.{Key}
 use Rattle.text_keys.specs.declared.Key.the-variants as key
-use Rattle.text_lines.specs.Form.{entry}
 use Rattle.text_lines.specs.declared.Entry.{Entry}
-use Rattle.text_entries.specs.Said.{keyIs, partOf, picked, numbersFor, masksOf, numberFor, sliceFor}
+use Rattle.text_entries.specs.Said.{picked, numbersFor, masksOf, numberFor, sliceFor, settingsOf}
 use Rattle.text_entries.specs.declared.Part.{Part}
 use Rattle.text_entries.specs.declared.Part.the-variants.{First, Second}
-use Rattle.text_readback.specs.Written.{entriesOf}
+use Rattle.text_split.specs.Text.{split}
+use Rattle.text_order.specs.Order.{among}
+use Rattle.text_order.specs.declared.Kind.the-variants.{Sheet}
+use Rattle.text_order.proofs.Heads.{head}
+use Rattle.text_place.specs.Places.{start}
+use Rattle.text_ending.specs.declared.Scanned.the-variants.{Whole}
+use Rattle.text_reading.specs.Reading.{readingOf}
+use Rattle.text_readback.specs.Written.{ownEntries}
+use Rattle.text_readback.proofs.Picked.{picked-append, picked-none, picked-all}
+use Rattle.text_readback.proofs.Heads.{Heading}
+use Rattle.text_readback.proofs.Whole.{cut}
 
-module _ (k : Key) (p : Part) where
-  picked-append : (xs ys : List Entry) → picked k p (xs ++ ys) ≡ picked k p xs ++ picked k p ys
-  unfolding picked
-  picked-append [] ys = refl
-  picked-append (x ∷ xs) ys = go (keyIs k x) (picked-append xs ys)
-    where
-      go : (b : Bool) → picked k p (xs ++ ys) ≡ picked k p xs ++ picked k p ys → elim b [ true ↦ partOf p x ∷ picked k p (xs ++ ys) | false ↦ picked k p (xs ++ ys) ] ≡ elim b [ true ↦ partOf p x ∷ picked k p xs | false ↦ picked k p xs ] ++ picked k p ys
-      go true h = ap (λ (l : List ℕ). partOf p x ∷ l) h
-      go false h = h
+module _ (s : List ℕ) (read : readingOf Sheet s .end ≡ Whole) (stop : TestSlice) (slices : ℕ) (seeds : List ℕ) where
+  abbrev sheet : List Entry
+  sheet = readingOf Sheet s .entries
 
-  picked-none : (j : Key) → same j k ≡ false → (vs : List ℕ) → picked k p (map (λ v. entry j v 0) vs) ≡ []
-  unfolding picked
-  picked-none j h [] = refl
-  picked-none j h (v ∷ vs) = rw (h, picked) (picked-none j h vs)
+  abbrev above : Heading start (split s) sheet
+  above = cut s read
 
-picked-all : (j k : Key) → same j k ≡ true → (vs : List ℕ) → picked k First (map (λ v. entry j v 0) vs) ≡ vs
-unfolding picked
-picked-all j k h [] = refl
-picked-all j k h (v ∷ vs) = rw (h, picked) (ap (λ (l : List ℕ). v ∷ l) (picked-all j k h vs))
+  abbrev own : List Entry
+  own = ownEntries stop slices seeds
 
-module _ (cells taps : ℕ) (masks : List ℕ) (stop : TestSlice) (slices : ℕ) (seeds : List ℕ) where
-  -- The entries after the first three: the chain lines, the two lines between, and the seed lines.
-  abbrev chainLines : List Entry
-  chainLines = map (λ m. entry key.Chain m 0) masks
+  abbrev listed : List Entry
+  listed = above .above ++ own
 
-  abbrev between : List Entry
-  between = entry key.Stop (stop .specified) (stop .bits) ∷ entry key.Slices slices 0 ∷ []
+  -- A key of the lines that are repeated.
+  head-back : (k : Key) → head k ≡ true → numbersFor k own ≡ [] → numbersFor k listed ≡ numbersFor k sheet
+  head-back k e o =
+      picked-append k First (above .above) own
+      ∙ ap (λ (l : List ℕ). numbersFor k (above .above) ++ l) (o ∙ sym (above .tails k First e))
+      ∙ sym (picked-append k First (above .above) (above .below))
+      ∙ ap (picked k First) (sym (above .parts))
 
-  abbrev seedLines : List Entry
-  seedLines = map (λ s. entry key.Seed s 0) seeds
+  -- A key of the list's own lines.
+  own-back : (k : Key) (p : Part) → head k ≡ false → picked k p listed ≡ picked k p own
+  own-back k p e = picked-append k p (above .above) own ∙ ap (λ (l : List ℕ). l ++ picked k p own) (above .heads k p e)
 
-  picked-parts : (k : Key) (p : Part) → picked k p (chainLines ++ (between ++ seedLines)) ≡ picked k p chainLines ++ (picked k p between ++ picked k p seedLines)
-  picked-parts k p = picked-append k p chainLines (between ++ seedLines) ∙ ap (λ (l : List ℕ). picked k p chainLines ++ l) (picked-append k p between seedLines)
+  pub masks-back : masksOf listed ≡ masksOf sheet
+  unfolding head among same ownEntries picked
+  masks-back = head-back key.Chain refl (picked-none key.Chain First key.Seed refl seeds)
 
-  -- A key that is neither that of the chain lines nor that of the seed lines.
-  picked-between : (k : Key) (p : Part) → same key.Chain k ≡ false → same key.Seed k ≡ false → picked k p (chainLines ++ (between ++ seedLines)) ≡ picked k p between
-  picked-between k p c s = picked-parts k p ∙ rw (picked-none k p key.Chain c masks, picked-none k p key.Seed s seeds) (append-nil (picked k p between))
+  pub settings-back : settingsOf listed ≡ settingsOf sheet
+  unfolding head among same ownEntries picked
+  settings-back =
+      ap (λ (l : List ℕ). record { cells = getD l 0 0; taps = numberFor key.Taps listed; limit = getD (numbersFor key.Window listed) 0 defaultLimit }) (head-back key.Cells refl (picked-none key.Cells First key.Seed refl seeds))
+      ∙ ap (λ (l : List ℕ). record { cells = numberFor key.Cells sheet; taps = getD l 0 0; limit = getD (numbersFor key.Window listed) 0 defaultLimit }) (head-back key.Taps refl (picked-none key.Taps First key.Seed refl seeds))
+      ∙ ap (λ (l : List ℕ). record { cells = numberFor key.Cells sheet; taps = numberFor key.Taps sheet; limit = getD l 0 defaultLimit }) (head-back key.Window refl (picked-none key.Window First key.Seed refl seeds))
 
-  pub masks-back : masksOf (entriesOf cells taps masks stop slices seeds) ≡ masks
-  unfolding entriesOf picked same
-  masks-back =
-      picked-parts key.Chain First
-      ∙ rw (picked-all key.Chain key.Chain refl masks, picked-none key.Chain First key.Seed refl seeds) (append-nil masks)
+  pub seeds-back : numbersFor key.Seed listed ≡ seeds
+  unfolding head among same ownEntries picked
+  seeds-back = own-back key.Seed First refl ∙ picked-all key.Seed key.Seed refl seeds
 
-  pub seeds-back : numbersFor key.Seed (entriesOf cells taps masks stop slices seeds) ≡ seeds
-  unfolding entriesOf picked same
-  seeds-back = picked-parts key.Seed First ∙ rw (picked-none key.Seed First key.Chain refl masks, picked-all key.Seed key.Seed refl seeds)
+  pub slices-back : numberFor key.Slices listed ≡ slices
+  unfolding head among same ownEntries picked
+  slices-back = ap (λ l. getD l 0 0) (own-back key.Slices First refl)
 
-  pub cells-back : numberFor key.Cells (entriesOf cells taps masks stop slices seeds) ≡ cells
-  unfolding entriesOf picked same
-  cells-back = refl
-
-  pub taps-back : numberFor key.Taps (entriesOf cells taps masks stop slices seeds) ≡ taps
-  unfolding entriesOf picked same
-  taps-back = refl
-
-  pub slices-back : numberFor key.Slices (entriesOf cells taps masks stop slices seeds) ≡ slices
-  unfolding entriesOf picked same
-  slices-back = ap (λ l. getD l 0 0) (picked-between key.Slices First refl refl)
-
-  pub stop-back : sliceFor key.Stop (entriesOf cells taps masks stop slices seeds) ≡ stop
-  unfolding entriesOf picked same
+  pub stop-back : sliceFor key.Stop listed ≡ stop
+  unfolding head among same ownEntries picked
   stop-back =
       ap₂ (λ (a b : ℕ). record { specified = a; bits = b })
-      (ap (λ l. getD l 0 0) (picked-between key.Stop First refl refl))
-      (ap (λ l. getD l 0 0) (picked-between key.Stop Second refl refl))
+      (ap (λ l. getD l 0 0) (own-back key.Stop First refl))
+      (ap (λ l. getD l 0 0) (own-back key.Stop Second refl))

@@ -1,25 +1,18 @@
--- The seed list that is written is read back as what was written.
---     cells-fine, stop-some     what the checks say of single numbers
---     tail-reads      the lines from the stop line on are read through
---     list-reads      so are all lines
+-- The seed list that is written for a sheet is read back: the lines that it repeats as the sheet's own, and then its own lines as what they were written of.
+--     stop-some       what the checks say of the stop slice
+--     own-reads       the list's own lines are read through, wherever a stop line may stand
+--     Back s stop slices seeds     what the list says: the sheet's entries before depth, and its own
 --     read-back       the reading of the whole list
 -- Assumes nothing.
-use mathlib.Core.Bool.{false, not, _||_}
-use mathlib.Core.Path.{_≡_, refl}
-use mathlib.Core.List.{List, _∷_, _++_, map, append-assoc}
-use Prim.Native.Nat.{ℕ, _-_}
+use mathlib.Core.Bool.{true, false}
+use mathlib.Core.Path.{_≡_, refl, sym, ap, subst, _∙_}
+use mathlib.Core.List.{List, _++_, append-nil}
+use Prim.Native.Nat.{ℕ, _+_}
 use native.Mathlib.Omega.{arith}
+use borrow.Author.Tests.{ne-eqb}
 use lib.Dec.{eqb}
 use lib.ListN.{length}
-use Rattle.words_bounded.specs.Bounded.{within}
 use Rattle.words_bounded.proofs.Tests.{neither}
-use Rattle.words_gf2.specs.Words.{digit, beyond}
-use Rattle.words_gf2.proofs.Digits.{beyond-wide}
-use Rattle.machine_settings.specs.Machine.{base}
-use Rattle.machine_register.specs.Register.{badRegister}
-use Rattle.machine_register.proofs.Causes.{cells-within, taps-below}
-use Rattle.machine_chains.specs.Chains.{badCount}
-use Rattle.machine_chains.proofs.Causes.{chains-within, chains-counted, chains-masked}
 use Rattle.machine_slices.specs.Slices.{badSlice, badStop}
 use Rattle.machine_slices.specs.declared.TestSlice.{TestSlice}
 use Rattle.machine_slices.proofs.Formed.{stop-slice}
@@ -28,70 +21,72 @@ use Rattle.refusal_lengths.proofs.Lengths.{set-within}
 use Rattle.text_keys.specs.Keys.{rows, rowAt, name, notation, same, most, range}
 use Rattle.text_keys.specs.declared.Key.the-variants as key
 use Rattle.text_lines.specs.Form.{entry}
+use Rattle.text_lines.specs.declared.Entry.{Entry}
+use Rattle.text_entries.specs.Said.{masksOf}
+use Rattle.text_entries.specs.declared.Part.the-variants.{First}
+use Rattle.text_split.specs.Text.{split}
+use Rattle.text_head.specs.Before.{linesBefore}
 use Rattle.text_order.specs.Order.{after, missing, mayStand, among, inOrder, mayEnd}
-use Rattle.text_order.specs.declared.Kind.the-variants.{SeedList}
+use Rattle.text_order.specs.declared.Kind.the-variants.{Sheet, SeedList}
+use Rattle.text_order.proofs.Heads.{head}
+use Rattle.text_order.proofs.Standing.{missing-none, stand-after}
 use Rattle.text_place.specs.Places.{start, runOf, moved}
+use Rattle.text_place.specs.declared.Place.{Place}
+use Rattle.text_place.proofs.Runs.{run-none}
 use Rattle.text_ranges.specs.Ranges.{outside}
 use Rattle.text_reading.specs.Reading.{readingOf}
 use Rattle.text_ending.specs.declared.Scanned.the-variants.{Whole}
 use Rattle.text_write_numbers.specs.Lines.{numberLine, numberLines}
 use Rattle.text_write_characters.specs.Characters.{sliceLine}
-use Rattle.text_write_list.specs.SeedList.{headText, listText}
-use Rattle.text_readback.specs.Written.{value, written, entriesOf, Printable}
+use Rattle.text_write_list.specs.SeedList.{listText}
+use Rattle.text_readback.specs.Written.{value, written, ownEntries, Printable}
 use Rattle.text_readback.proofs.Lines.{Reads, line-reads}
-use Rattle.text_readback.proofs.Runs.{placeAt, accepted-at, stop-next, masks-read, seeds-read}
-
-cells-fine : (cells taps : ℕ) → badRegister cells taps ≡ false → not (within 1 64 cells) ≡ false
-unfolding badRegister
-cells-fine cells taps b = neither (not (within 1 64 cells)) (beyond cells taps || eqb (digit taps (cells - 1)) 0) b .0
+use Rattle.text_readback.proofs.Runs.{placeAt, accepted-at, seeds-read}
+use Rattle.text_readback.proofs.Picked.{picked-append}
+use Rattle.text_readback.proofs.Chains.{had, hadOf, held-start}
+use Rattle.text_readback.proofs.Heads.{split-plain, Heading, heading}
 
 stop-some : (chains : ℕ) (stop : TestSlice) → badStop chains stop ≡ false → eqb (stop .specified) 0 ≡ false
 unfolding badStop
 stop-some chains stop b = neither (eqb (stop .specified) 0) (badSlice chains stop) b .0
 
-module _ (cells taps : ℕ) (masks : List ℕ) (stop : TestSlice) (slices : ℕ) (seeds : List ℕ) (p : Printable cells taps masks stop slices seeds) where
-  tail-reads : Reads SeedList (placeAt key.Chain (length masks) cells (length masks))
-      (sliceLine (length masks) (name key.Stop) stop ++ (numberLine 10 (name key.Slices) slices ++ numberLines 16 (name key.Seed) seeds))
-      (entry key.Stop (stop .specified) (stop .bits) ∷ entry key.Slices slices 0 ∷ map (λ s. entry key.Seed s 0) seeds)
-  unfolding sliceLine numberLine written value notation range most rowAt rows outside runOf moved same inOrder mayStand missing after among mayEnd badSet
-  tail-reads =
-      let n = length masks in
-      let w = chains-within cells masks (p .chains) in
-      let at-stop = placeAt key.Chain n cells n in
-      let at-slices = placeAt key.Stop 1 cells n in
-      line-reads SeedList at-stop (entry key.Stop (stop .specified) (stop .bits))
-      (accepted-at SeedList at-stop (entry key.Stop (stop .specified) (stop .bits)) (stop-next cells n n (w .0) refl) (omega arith) (stop-some n stop (p .stopped)))
-      (w .1, stop-slice n stop (p .stopped)) _ _
-      (line-reads SeedList at-slices (entry key.Slices slices 0)
-      (accepted-at SeedList at-slices (entry key.Slices slices 0) refl (omega arith) (p .total))
-      (omega (arith, set-within slices (p .total) .1), refl) _ _
-      (seeds-read seeds (placeAt key.Slices 1 cells n) refl refl (omega (arith, p .few)) (p .words)))
+module _ (stop : TestSlice) (slices : ℕ) (seeds : List ℕ) where
+  slices-next : (p : Place) (v : ℕ) → inOrder SeedList (moved p key.Stop v) key.Slices ≡ true
+  unfolding inOrder among same after moved
+  slices-next p v = let q = moved p key.Stop v in rw (stand-after q SeedList (ne-eqb (runOf p key.Stop + 1) 0 (λ e. omega arith)) (missing-none q refl))
 
-  list-reads : Reads SeedList start
-      (numberLine 10 (name key.Cells) cells
-      ++ (numberLine 16 (name key.Taps) taps
-      ++ (numberLine 10 (name key.Chains) (length masks)
-      ++ (numberLines 16 (name key.Chain) masks
-      ++ (sliceLine (length masks) (name key.Stop) stop ++ (numberLine 10 (name key.Slices) slices ++ numberLines 16 (name key.Seed) seeds))))))
-      (entriesOf cells taps masks stop slices seeds)
-  unfolding numberLine written value notation range most rowAt rows outside runOf moved same inOrder mayStand missing after among entriesOf badCount
-  list-reads =
-      let c = cells-within cells taps (p .register) in
-      let w = chains-within cells masks (p .chains) in
-      let n = length masks in
-      let at-taps = placeAt key.Cells 1 cells 0 in
-      let at-chains = placeAt key.Taps 1 cells 0 in
-      line-reads SeedList start (entry key.Cells cells 0)
-      (accepted-at SeedList start (entry key.Cells cells 0) refl (omega arith) (cells-fine cells taps (p .register)))
-      (omega (arith, c .1), refl) _ _
-      (line-reads SeedList at-taps (entry key.Taps taps 0)
-      (accepted-at SeedList at-taps (entry key.Taps taps 0) refl (omega arith) (p .register))
-      (beyond-wide cells 64 taps (c .1) (taps-below cells taps (p .register)), refl) _ _
-      (line-reads SeedList at-chains (entry key.Chains n 0)
-      (accepted-at SeedList at-chains (entry key.Chains n 0) refl (omega arith) (chains-counted cells masks (p .chains)))
-      (omega (arith, w .1), refl) _ _
-      (masks-read cells n (c .1) (w .0) (w .1) _ _ tail-reads masks refl (chains-masked cells masks (p .chains)))))
+  own-reads : (p : Place) → inOrder SeedList p key.Stop ≡ true → same (p .last) key.Stop ≡ false → Printable (p .chains) stop slices seeds
+      → Reads SeedList p (sliceLine (p .chains) (name key.Stop) stop ++ (numberLine 10 (name key.Slices) slices ++ numberLines 16 (name key.Seed) seeds)) (ownEntries stop slices seeds)
+  unfolding sliceLine numberLine written value notation range most rowAt rows outside runOf moved same inOrder mayStand missing after among mayEnd badSet ownEntries
+  own-reads p o n w =
+      let at-stop = entry key.Stop (stop .specified) (stop .bits) in
+      let at-slices = entry key.Slices slices 0 in
+      let q = moved p key.Stop (stop .specified) in
+      line-reads SeedList p at-stop
+      (accepted-at SeedList p at-stop o (omega (arith, run-none p key.Stop n)) (stop-some (p .chains) stop (w .stopped)))
+      (w .chained, stop-slice (p .chains) stop (w .stopped)) _ _
+      (line-reads SeedList q at-slices
+      (accepted-at SeedList q at-slices (slices-next p (stop .specified)) (omega arith) (w .total))
+      (omega (arith, set-within slices (w .total) .1), refl) _ _
+      (seeds-read seeds (placeAt key.Slices 1 (p .cells) (p .chains)) refl refl (omega (arith, w .few)) (w .words)))
 
-  pub read-back : readingOf SeedList (listText (base cells taps) masks stop slices seeds) ≡ record { entries = entriesOf cells taps masks stop slices seeds; end = Whole }
-  unfolding readingOf listText headText
-  read-back = simp append-assoc (list-reads 1)
+module _ (s : List ℕ) (read : readingOf Sheet s .end ≡ Whole) where
+  abbrev sheet : List Entry
+  sheet = readingOf Sheet s .entries
+
+  -- The sheet, cut at depth.
+  pub cut : Heading start (split s) sheet
+  unfolding readingOf
+  cut = heading (split s) start 1 (split-plain s) held-start read
+
+  pub chains-said : cut .place .chains ≡ length (masksOf sheet)
+  unfolding had hadOf head among same
+  chains-said =
+      let m : masksOf sheet ≡ masksOf (cut .above) = ap masksOf (cut .parts) ∙ picked-append key.Chain First (cut .above) (cut .below) ∙ ap (λ (l : List ℕ). masksOf (cut .above) ++ l) (cut .tails key.Chain First refl) ∙ append-nil (masksOf (cut .above)) in
+      omega (arith, cut .counted, ap length m)
+
+  pub read-back : (stop : TestSlice) (slices : ℕ) (seeds : List ℕ) → Printable (length (masksOf sheet)) stop slices seeds
+      → readingOf SeedList (listText (linesBefore key.Depth (split s)) (length (masksOf sheet)) stop slices seeds) ≡ record { entries = cut .above ++ ownEntries stop slices seeds; end = Whole }
+  unfolding readingOf listText
+  read-back stop slices seeds p =
+      cut .reads _ (ownEntries stop slices seeds) (subst (λ n. Reads SeedList (cut .place) (sliceLine n (name key.Stop) stop ++ (numberLine 10 (name key.Slices) slices ++ numberLines 16 (name key.Seed) seeds)) (ownEntries stop slices seeds)) chains-said (own-reads stop slices seeds (cut .place) (cut .next) (cut .fresh) (subst (λ n. Printable n stop slices seeds) (sym chains-said) p))) 1

@@ -3,8 +3,8 @@
 --     value chains e       the value of a line with the entry e, in the notation of its key, where there are so many chains
 --     written chains e     the line
 --     Spelt chains n e     the entry e has a value in the notation n
---     entriesOf            the entries of a seed list, line by line
---     Printable            what a seed list may be written of
+--     ownEntries stop slices seeds     the entries of a seed list after the lines that it repeats from its sheet
+--     Printable            what these lines may be written of
 use mathlib.Core.Path.{_≡_}
 use mathlib.Core.Bool.{false}
 use mathlib.Core.List.{List, [], _∷_, _++_, map}
@@ -12,8 +12,6 @@ use Prim.Native.Nat.{ℕ, _≤_}
 use lib.ListN.{length}
 use Rattle.words_bounded.specs.Bounded.{any}
 use Rattle.words_gf2.specs.Words.{beyond}
-use Rattle.machine_register.specs.Register.{badRegister}
-use Rattle.machine_chains.specs.Chains.{badChains}
 use Rattle.machine_slices.specs.Slices.{badSlice, badStop}
 use Rattle.machine_slices.specs.declared.TestSlice.{TestSlice}
 use Rattle.refusal_lengths.specs.Lengths.{mostSlices, badSet}
@@ -46,21 +44,16 @@ Spelt chains Decimal e = (e .first ≤ 9999) × (e .second ≡ 0)
 Spelt chains Hexadecimal e = (beyond 64 (e .first) ≡ false) × (e .second ≡ 0)
 Spelt chains Chainwise e = (chains ≤ 64) × (badSlice chains (sliceIn e) ≡ false)
 
-unfoldable pub entriesOf : ℕ → ℕ → List ℕ → TestSlice → ℕ → List ℕ → List Entry
-entriesOf cells taps masks stop slices seeds =
-    entry key.Cells cells 0
-    ∷ entry key.Taps taps 0
-    ∷ entry key.Chains (length masks) 0
-    ∷ (map (λ m. entry key.Chain m 0) masks
-    ++ (entry key.Stop (stop .specified) (stop .bits)
+unfoldable pub ownEntries : TestSlice → ℕ → List ℕ → List Entry
+ownEntries stop slices seeds =
+    entry key.Stop (stop .specified) (stop .bits)
     ∷ entry key.Slices slices 0
-    ∷ map (λ s. entry key.Seed s 0) seeds))
+    ∷ map (λ s. entry key.Seed s 0) seeds
 
 -- What the checks accept, and seeds that are words.
-pub record Printable (cells taps : ℕ) (masks : List ℕ) (stop : TestSlice) (slices : ℕ) (seeds : List ℕ) : Type 0 where
-  pub register : badRegister cells taps ≡ false
-  pub chains : badChains cells masks ≡ false
-  pub stopped : badStop (length masks) stop ≡ false
+pub record Printable (chains : ℕ) (stop : TestSlice) (slices : ℕ) (seeds : List ℕ) : Type 0 where
+  pub chained : chains ≤ 64
+  pub stopped : badStop chains stop ≡ false
   pub total : badSet slices ≡ false
   pub few : length seeds ≤ mostSlices
   pub words : any (beyond 64) seeds ≡ false

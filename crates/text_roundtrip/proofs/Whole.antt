@@ -12,7 +12,8 @@ use lib.Seq.{take-append-seam}
 use Rattle.refusal_causes.specs.declared.Refusal.{Refusal}
 use Rattle.refusal_causes.specs.Outcome.{Outcome, fill}
 use Rattle.refusal_causes.proofs.Outcome.{fill-whole}
-use Rattle.machine_settings.specs.Machine.{base}
+use Rattle.machine_settings.specs.declared.Settings.{Settings}
+use Rattle.machine_chains.proofs.Causes.{chains-within}
 use Rattle.machine_slices.specs.declared.TestSlice.{TestSlice}
 use Rattle.machine_slices.specs.Slices.{paired}
 use Rattle.machine_slices.proofs.Formed.{slices-length}
@@ -24,7 +25,9 @@ use Rattle.encoder_cubes.specs.Cubes.{CubesOutcome, encodeCubes}
 use Rattle.encoder_meaning.specs.declared.Encoded.{Encoded}
 use Rattle.encoder_meaning.specs.declared.Encoded.the-variants as encodings
 use Rattle.text_reading.specs.Reading.{readingOf}
-use Rattle.text_entries.specs.Said.{masksOf, numberFor}
+use Rattle.text_entries.specs.Said.{masksOf, numberFor, settingsOf}
+use Rattle.text_split.specs.Text.{split}
+use Rattle.text_head.specs.Before.{linesBefore}
 use Rattle.text_order.specs.declared.Kind.the-variants as kinds
 use Rattle.text_ending.specs.declared.Scanned.{Scanned}
 use Rattle.text_ending.specs.declared.Scanned.the-variants as scanned
@@ -32,7 +35,7 @@ use Rattle.text_write_slices.specs.Slices.{sliceLines}
 use Rattle.text_write_list.specs.SeedList.{listText}
 use Rattle.text_readback.specs.Written.{Printable}
 use Rattle.text_readback.proofs.Whole.{read-back}
-use Rattle.text_readback.proofs.Said.{masks-back, seeds-back, cells-back, taps-back, slices-back, stop-back}
+use Rattle.text_readback.proofs.Said.{settings-back, masks-back, seeds-back, slices-back, stop-back}
 use Rattle.text_replies.specs.Replies.{Reply, text, refused, lent}
 use Rattle.text_encode_said.specs.Encoded.{listReply, encoded}
 use Rattle.text_expand_said.specs.Expanded.{slicesReply, expanded}
@@ -45,11 +48,12 @@ use Rattle.text_roundtrip.proofs.Accepted.{cubes-accepted}
 
 -- ---- the printed list, read and expanded
 
-module _ (cells taps : ℕ) (masks : List ℕ) (stop : TestSlice) (slices : ℕ) (seeds : List ℕ) (p : Printable cells taps masks stop slices seeds) where
-  -- The list is expanded as what was written.
-  list-expands : expandReply (listText (base cells taps) masks stop slices seeds) ≡ expanded (base cells taps) masks stop slices seeds
+module _ (s : List ℕ) (read : readingOf kinds.Sheet s .end ≡ scanned.Whole) (stop : TestSlice) (slices : ℕ) (seeds : List ℕ) where
+  -- The list is expanded as what the sheet says before depth, and what was written.
+  list-expands : Printable (length (masksOf (sheetOf s))) stop slices seeds
+      → expandReply (listText (linesBefore key.Depth (split s)) (length (masksOf (sheetOf s))) stop slices seeds) ≡ expanded (settingsOf (sheetOf s)) (masksOf (sheetOf s)) stop slices seeds
   unfolding replyTo concluded seedListReply
-  list-expands = rw (read-back cells taps masks stop slices seeds p, masks-back cells taps masks stop slices seeds, seeds-back cells taps masks stop slices seeds, cells-back cells taps masks stop slices seeds, taps-back cells taps masks stop slices seeds, slices-back cells taps masks stop slices seeds, stop-back cells taps masks stop slices seeds)
+  list-expands p = rw (read-back s read stop slices seeds p, settings-back s read stop slices seeds, masks-back s read stop slices seeds, seeds-back s read stop slices seeds, slices-back s read stop slices seeds, stop-back s read stop slices seeds)
 
 -- Slices that are delivered stand in the lent buffer.
 delivered-reply : (chains : ℕ) (vs : List ℕ) (o : Outcome) → o ≡ fill vs lent → length vs ≤ 2048 → slicesReply chains (o .buffer) (o .answer) ≡ text (sliceLines chains vs) (length vs)
@@ -76,13 +80,18 @@ unfolding concluded
 concluded-text scanned.Whole r list n e = e
 concluded-text (scanned.Refused c) r list n e = absurd (refused-text c list n e)
 
+concluded-whole : (end : Scanned) (r : Reply) (list : List ℕ) (n : ℕ) → concluded end r ≡ text list n → end ≡ scanned.Whole
+unfolding concluded
+concluded-whole scanned.Whole r list n e = refl
+concluded-whole (scanned.Refused c) r list n e = absurd (refused-text c list n e)
+
 module _ (s : List ℕ) where
   -- What the sheet says, and the outcome of its encoding.
-  abbrev cells : ℕ
-  cells = numberFor key.Cells (sheetOf s)
+  abbrev g : Settings
+  g = settingsOf (sheetOf s)
 
-  abbrev taps : ℕ
-  taps = numberFor key.Taps (sheetOf s)
+  abbrev head : List ℕ
+  head = linesBefore key.Depth (split s)
 
   abbrev masks : List ℕ
   masks = masksOf (sheetOf s)
@@ -94,40 +103,40 @@ module _ (s : List ℕ) where
   bs = bitsOf (sheetOf s)
 
   abbrev o : CubesOutcome
-  o = encodeCubes (base cells taps) masks (numberFor key.Depth (sheetOf s)) ps bs lent
+  o = encodeCubes g masks (numberFor key.Depth (sheetOf s)) ps bs lent
 
-  seeds-give-back : (stop : TestSlice) (n : ℕ) → o .answer ≡ encodings.Seeds stop n → GivesBack s (listText (base cells taps) masks stop (length ps) (take n (o .buffer)))
+  seeds-give-back : readingOf kinds.Sheet s .end ≡ scanned.Whole → (stop : TestSlice) (n : ℕ) → o .answer ≡ encodings.Seeds stop n → GivesBack s (listText head (length masks) stop (length ps) (take n (o .buffer)))
   unfolding expanded
-  seeds-give-back stop n e =
-      let a = cubes-accepted (base cells taps) masks _ ps bs lent stop n e in
-      let f = set-formed (base cells taps) masks stop ps bs (a .formed) in
+  seeds-give-back read stop n e =
+      let a = cubes-accepted g masks _ ps bs lent stop n e in
+      let f = set-formed g masks stop ps bs (a .formed) in
       let d = a .delivers in
       let l = slices-length (length masks) ps bs (f .slices) in
       let w = set-within (length ps) (f .lengths) in
-      let p : Printable cells taps masks stop (length ps) (take n (o .buffer)) = record { register = f .register; chains = f .chains; stopped = f .stop; total = f .lengths; few = omega (arith, length-take n (o .buffer), encode-long (base cells taps) masks (numberFor key.Depth (sheetOf s)) ps bs lent, length-replicate {A = ℕ} 2048 0); words = a .words } in
+      let p : Printable (length masks) stop (length ps) (take n (o .buffer)) = record { chained = chains-within (g .cells) masks (f .chains) .1; stopped = f .stop; total = f .lengths; few = omega (arith, length-take n (o .buffer), encode-long g masks (numberFor key.Depth (sheetOf s)) ps bs lent, length-replicate {A = ℕ} 2048 0); words = a .words } in
       record {
         slices = d .slices;
-        expands = list-expands cells taps masks stop (length ps) (take n (o .buffer)) p ∙ delivered-reply (length masks) (d .slices) _ (d .accepted lent) (omega (arith, d .whole, l, w .1));
+        expands = list-expands s read stop (length ps) (take n (o .buffer)) p ∙ delivered-reply (length masks) (d .slices) _ (d .accepted lent) (omega (arith, d .whole, l, w .1));
         whole = d .whole ∙ l;
         agree = λ i t h. d .agree i t (omega (arith, l));
       }
 
   module _ (list : List ℕ) (n : ℕ) where
-    given-back : (a : Encoded) → o .answer ≡ a → listReply (base cells taps) masks (length ps) (o .buffer) a ≡ text list n → GivesBack s list
+    given-back : readingOf kinds.Sheet s .end ≡ scanned.Whole → (a : Encoded) → o .answer ≡ a → listReply head (length masks) (length ps) (o .buffer) a ≡ text list n → GivesBack s list
     unfolding listReply
-    given-back (encodings.Seeds stop m) q e = rw (← (text-is _ list m n e)) (seeds-give-back stop m q)
-    given-back (encodings.Refused c) q e = absurd (refused-text _ list n e)
+    given-back read (encodings.Seeds stop m) q e = rw (← (text-is _ list m n e)) (seeds-give-back read stop m q)
+    given-back read (encodings.Refused c) q e = absurd (refused-text _ list n e)
 
     module _ (stop : TestSlice) (its : stopFor (length masks) (paired ps bs) ≡ some stop) where
-      seeds-quoted : (st : TestSlice) (m : ℕ) → o .answer ≡ encodings.Seeds st m → listText (base cells taps) masks st (length ps) (take m (o .buffer)) ≡ list → m ≡ n → Quoted s st list n
+      seeds-quoted : (st : TestSlice) (m : ℕ) → o .answer ≡ encodings.Seeds st m → listText head (length masks) st (length ps) (take m (o .buffer)) ≡ list → m ≡ n → Quoted s st list n
       seeds-quoted st m q t k =
-          let a = cubes-accepted (base cells taps) masks _ ps bs lent st m q in
+          let a = cubes-accepted g masks _ ps bs lent st m q in
           record { seeds = take m (o .buffer); printed = sym t; count = a .count ∙ k; stopped = a .stopped; shortest = a .shortest }
 
-      list-quoted : (a : Encoded) → o .answer ≡ a → listReply (base cells taps) masks (length ps) (o .buffer) a ≡ text list n → Quoted s stop list n
+      list-quoted : (a : Encoded) → o .answer ≡ a → listReply head (length masks) (length ps) (o .buffer) a ≡ text list n → Quoted s stop list n
       unfolding listReply
       list-quoted (encodings.Seeds st m) q e =
-          let a = cubes-accepted (base cells taps) masks _ ps bs lent st m q in
+          let a = cubes-accepted g masks _ ps bs lent st m q in
           rw (← (some-is st stop (sym (a .stopped) ∙ its))) (seeds-quoted st m q (text-is _ list m n e) (count-is _ list m n e))
       list-quoted (encodings.Refused c) q e = absurd (refused-text _ list n e)
 
@@ -137,4 +146,4 @@ module _ (s : List ℕ) where
 
     pub round-trip : encodeReply s ≡ text list n → GivesBack s list
     unfolding replyTo sheetReply encoded
-    round-trip e = given-back (o .answer) refl (concluded-text (readingOf kinds.Sheet s .end) _ list n e)
+    round-trip e = given-back (concluded-whole (readingOf kinds.Sheet s .end) _ list n e) (o .answer) refl (concluded-text (readingOf kinds.Sheet s .end) _ list n e)

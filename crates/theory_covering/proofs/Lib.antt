@@ -3,5 +3,6 @@ pub mod Tail
 pub mod Places
 pub mod Segments
 pub mod Windows
+pub mod Limits
 pub mod Zero
 pub mod Single

@@ -1,5 +1,5 @@
 -- Laws of the places of windows.
---     far-mono, far-le       the farthest end rises with the start and stays within the set
+--     far-mono, far-larger, far-le     the farthest end rises with the start and with the limit, and stays within the set
 --     placed-parts, parts-placed     what a placed window is
 --     far-segment            in a segment: its end or the limit
 --     segment-closes         in a segment: which windows close with their stop
@@ -22,7 +22,7 @@ use Rattle.theory_cutting.specs.Meaning.{Suffix}
 use Rattle.machine_settings.specs.declared.Settings.{Settings}
 use Rattle.machine_settings.specs.Machine.{base}
 use Rattle.machine_slices.specs.declared.TestSlice.{TestSlice}
-use Rattle.theory_covering.specs.Rules.{Rules, segmentRules, rules}
+use Rattle.theory_covering.specs.Rules.{Rules, Raised, segmentRules, rules}
 use Rattle.theory_covering.specs.Windows.{part, before, far, placed, closes}
 
 before-mono : (es : List ℕ) (i j m n : ℕ) → i ≤ j → m ≤ n → before es i m ≤ before es j n
@@ -49,6 +49,11 @@ before-le (e ∷ es) i n = go (ltb i e) (before-le es i n)
 far-mono : (R : Rules) (n i j : ℕ) → i ≤ j → far R n i ≤ far R n j
 unfolding far
 far-mono R n i j h = before-mono (R .edges) i j (min n (i + R .limit)) (min n (j + R .limit)) h (omega arith)
+
+pub far-larger : (small large : Rules) → Raised small large → (n i : ℕ) → far small n i ≤ far large n i
+unfolding far
+far-larger small large r n i =
+    rw (r .edges) (before-mono (large .edges) i i (min n (i + small .limit)) (min n (i + large .limit)) (omega arith) (omega (arith, r .limit)))
 
 pub far-le : (R : Rules) (n i : ℕ) → (far R n i ≤ n) × (far R n i ≤ i + R .limit)
 unfolding far

@@ -1,6 +1,6 @@
 -- How the test of a window is put together from parts that are kept by suffixes; and how the windows of a cutting are weakened.
 --     suffix-under      a second part need be kept only where the first holds
---     cutting-map       a cutting by one kind of window is one by a wider kind
+--     cutting-map, covering-map     a cutting by one kind of window is one by a wider kind; a covering likewise
 --     covering-cutting, covering-length     a covering is a cutting whose windows are covered, with one state for each
 --     cuts-count        a cutting has at most as many windows as slices
 -- Assumes nothing.
@@ -22,6 +22,10 @@ suffix-under p q sp sq i j k le lt t =
 pub cutting-map : (U W : ℕ → ℕ → Type 0) → ((i k : ℕ) → U i k → W i k) → {a b : ℕ} {es : List ℕ} → Cutting U a es b → Cutting W a es b
 cutting-map U W f no-window = no-window
 cutting-map U W f (window {a = a} {k = k} v c) = window (f a k v) (cutting-map U W f c)
+
+pub covering-map : (C D : ℕ → ℕ → ℕ → Type 0) → ((i k s : ℕ) → C i k s → D i k s) → {a b : ℕ} {es ss : List ℕ} → Covering C a es ss b → Covering D a es ss b
+covering-map C D f no-state = no-state
+covering-map C D f (state {a = a} {k = k} {s = s} h c) = state (f a k s h) (covering-map C D f c)
 
 pub covering-cutting : (C : ℕ → ℕ → ℕ → Type 0) → {a b : ℕ} {es ss : List ℕ} → Covering C a es ss b → Cutting (λ i k. (s : ℕ) × C i k s) a es b
 covering-cutting C no-state = no-window

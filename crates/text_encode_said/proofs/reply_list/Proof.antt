@@ -22,7 +22,7 @@ write-list-requires : tie.Need-write-list-requires
 write-list-requires c κs =
     let s = c .before .before .before .before .before .before .before .before .before in
     let h = s .pre in
-    (omega (arith, h .0), omega (arith, h .1, length-take (c .before .before .lesser .result) (s .args .seeds .now)))
+    (omega (arith, h .0), omega (arith, h .1), omega (arith, h .2, length-take (c .before .before .lesser .result) (s .args .seeds .now)))
 
 returns : tie.Need-returns
 returns c =

@@ -2,9 +2,10 @@
 use borrow.Author.Needs.{needs}
 use Rattle.text_entries.proofs.settings.Statement.{statement}
 use Rattle.text_entries.proofs.settings.Tie as tie
+use mathlib.Core.Path.{refl}
 
 returns : tie.Need-returns
-returns c = rw (← (c .before .before .number .ensures), ← (c .before .number2 .ensures)) (c .base .ensures)
+returns c = rw (← (c .before .before .number .ensures), ← (c .before .number2 .ensures), ← (c .number3 .ensures)) refl
 
 pub settings-spec : {M : Type 1} → statement M
 settings-spec = tie.close (tie.spec (λ c κs. search needs) (λ c κs. search needs) (λ c κs. search needs) returns)

@@ -11,7 +11,7 @@ put-list-requires : tie.Need-put-list-requires
 put-list-requires c κs =
     let s = c .before .before .before .before in
     let a = s .args in
-    omega (arith, s .pre, list-bound (a .settings) (a .masks .now) (a .stop) (a .slices) (a .seeds .now))
+    omega (arith, s .pre, list-bound (a .head .now) (a .chains) (a .stop) (a .slices) (a .seeds .now))
 
 returns : tie.Need-returns
 returns c = filled-short (c .before .before .put-list .ensures) _ (c .if1 .taken)

@@ -1,8 +1,0 @@
--- What is read is spelt as it would be written, in steps.
-pub mod Numerals
-pub mod Slices
-pub mod Names
-pub mod Forms
-pub mod Entries
-pub mod Order
-pub mod Head
