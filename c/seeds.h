@@ -27,7 +27,7 @@ extern "C" {
 #define SEEDS_MOST_SLICES 2048
 
 /* Bytes of a text that decide its answer, whatever stands behind them; bytes of the longest text that is written. */
-#define SEEDS_LONGEST_INPUT 169441
+#define SEEDS_LONGEST_INPUT 169521
 #define SEEDS_LONGEST_OUTPUT 145408
 
 /* Bytes of stack that are enough for every call: a thread may be made with just that many. */

@@ -1,7 +1,7 @@
--- The starred examples of document 01, "Bench examples": one table, and one proof over it. Register R is cells 3, taps 6, chain masks 1 and 4.
+-- The starred examples of document 01, "Bench examples", and examples of R-1 and R-3 of document 02: one table, and one proof over it. Register R is cells 3, taps 6, chain masks 1 and 4.
 --     Question     what is asked, in the words of the examples
 --     Told         what is told: numbers, a slice, a list with its stop slice, or a refusal with its number and value
---     answer       what the definitions answer
+--     answer       what the definitions answer, with the limit of windows
 --     Row, table   the questions with what document 01 tells
 --     answers, tolds     the two columns of a table
 --     starred      the definitions answer what document 01 tells, in every row
@@ -21,7 +21,8 @@ use Rattle.refusal_causes.specs.Sheet.{refusalOf}
 use Rattle.refusal_causes.specs.Outcome.{Outcome, refuse, fill}
 use Rattle.machine_register.specs.Register.{step, badRegister}
 use Rattle.machine_chains.specs.Chains.{slice as chainsSlice, badCount, badMask, badChains}
-use Rattle.machine_settings.specs.Machine.{Machine, base, machine}
+use Rattle.machine_settings.specs.Machine.{Machine, base, machine, defaultLimit}
+use Rattle.machine_settings.specs.declared.Settings.{Settings}
 use Rattle.machine_slices.specs.declared.TestSlice.{TestSlice}
 use Rattle.machine_slices.specs.Slices.{agrees, shows, paired, badSlice, badSlices, badStop}
 use Rattle.refusal_lengths.specs.Lengths.{badLimit, badWindow, badSet, badCubes, badList}
@@ -56,6 +57,7 @@ pub data Question : Type 0 where
   set : String → List String → Question  -- R, this stop, this set
   sheet : ℕ → List String → Question  -- R, cubes of this depth
   expand : String → ℕ → List ℕ → Question  -- R, this stop, slices, seeds
+  under : ℕ → Question → Question  -- the same with windows of up to so many slices
 
 pub data Told : Type 0 where
   numbers : List ℕ → Told
@@ -106,15 +108,19 @@ yes : Bool → ℕ
 yes true = 1
 yes false = 0
 
-answer : Question → Told
-answer (stepping s t) = numbers (states s t)
-answer (stop-slice chains ss) = of-formed (stopOf chains (specifieds ss) (bitses ss))
-answer (window stop ss) = of-seed (windowSeed (base 3 6) masks (slice stop) (specifieds ss) (bitses ss))
-answer (fitting stop ss s) = numbers (yes (fits R (slice stop) true (paired (specifieds ss) (bitses ss)) s) ∷ [])
-answer (showing stop m s) = numbers (showings (slice stop) s 0 m)
-answer (set stop ss) = (let o : Outcome = encodeSet (base 3 6) masks (slice stop) (specifieds ss) (bitses ss) lent in of-written (o .answer) (o .buffer))
-answer (sheet depth ss) = (let o : CubesOutcome = encodeCubes (base 3 6) masks depth (specifieds ss) (bitses ss) lent in of-encoded (o .answer) (o .buffer))
-answer (expand stop n seeds) = (let o : Outcome = expandList (base 3 6) masks (slice stop) n seeds lent in of-written (o .answer) (o .buffer))
+settings : ℕ → Settings
+settings limit = record { cells = 3; taps = 6; limit = limit }
+
+answer : ℕ → Question → Told
+answer w (stepping s t) = numbers (states s t)
+answer w (stop-slice chains ss) = of-formed (stopOf chains (specifieds ss) (bitses ss))
+answer w (window stop ss) = of-seed (windowSeed (settings w) masks (slice stop) (specifieds ss) (bitses ss))
+answer w (fitting stop ss s) = numbers (yes (fits R (slice stop) true (paired (specifieds ss) (bitses ss)) s) ∷ [])
+answer w (showing stop m s) = numbers (showings (slice stop) s 0 m)
+answer w (set stop ss) = (let o : Outcome = encodeSet (settings w) masks (slice stop) (specifieds ss) (bitses ss) lent in of-written (o .answer) (o .buffer))
+answer w (sheet depth ss) = (let o : CubesOutcome = encodeCubes (settings w) masks depth (specifieds ss) (bitses ss) lent in of-encoded (o .answer) (o .buffer))
+answer w (expand stop n seeds) = (let o : Outcome = expandList (settings w) masks (slice stop) n seeds lent in of-written (o .answer) (o .buffer))
+answer w (under limit q) = answer limit q
 
 -- ---- the table
 
@@ -155,16 +161,32 @@ table =
     ∷ record { asked = sheet 2 ("10" ∷ "x1" ∷ "1x" ∷ "1x" ∷ []); told = list-is (slice "0x") (3 ∷ 3 ∷ []) }
     -- and its list expanded: 10, 11, 10, 11
     ∷ record { asked = expand "0x" 4 (3 ∷ 3 ∷ []); told = numbers (1 ∷ 3 ∷ 1 ∷ 3 ∷ []) }
+    -- R-3: the window of seed 3 has two slices, so with a limit of 1 it is too long, and the set has no cutting
+    ∷ record { asked = under 2 (window "01" ("10" ∷ "x1" ∷ [])); told = numbers (3 ∷ []) }
+    ∷ record { asked = under 1 (window "01" ("10" ∷ "x1" ∷ [])); told = refused 3 0 }
+    ∷ record { asked = under 2 (set "01" ("10" ∷ "x1" ∷ [])); told = numbers (3 ∷ []) }
+    ∷ record { asked = under 1 (set "01" ("10" ∷ "x1" ∷ [])); told = refused 8 0 }
+    -- R-3: four slices need two windows of two; depth 4 is lawful with a limit of 2
+    ∷ record { asked = under 2 (set "01" ("xx" ∷ "xx" ∷ "xx" ∷ "xx" ∷ [])); told = numbers (3 ∷ 3 ∷ []) }
+    ∷ record { asked = under 2 (sheet 4 ("xx" ∷ "xx" ∷ "xx" ∷ "xx" ∷ [])); told = list-is (slice "1x") (6 ∷ 6 ∷ []) }
+    -- R-3: seed 3 shows the stop at slice 2, which a limit of 2 reaches and one of 1 does not
+    ∷ record { asked = under 2 (expand "01" 2 (3 ∷ [])); told = numbers (1 ∷ 3 ∷ []) }
+    ∷ record { asked = under 1 (expand "01" 2 (3 ∷ [])); told = refused 12 0 }
+    -- R-3: limits of 0 and 257
+    ∷ record { asked = under 0 (set "01" ("10" ∷ "x1" ∷ [])); told = refused 3 0 }
+    ∷ record { asked = under 257 (set "01" ("10" ∷ "x1" ∷ [])); told = refused 3 0 }
+    ∷ record { asked = under 257 (window "01" ("10" ∷ [])); told = refused 3 0 }
+    ∷ record { asked = under 0 (expand "01" 2 (3 ∷ [])); told = refused 3 0 }
     ∷ []
 
 pub answers : List Row → List Told
 answers [] = []
-answers (r ∷ rs) = answer (r .asked) ∷ answers rs
+answers (r ∷ rs) = answer defaultLimit (r .asked) ∷ answers rs
 
 pub tolds : List Row → List Told
 tolds [] = []
 tolds (r ∷ rs) = r .told ∷ tolds rs
 
 pub starred : answers table ≡ tolds table
-unfolding answers tolds answer refusal states showings of-formed of-seed of-written of-encoded yes digit odd beyond ones onesIn within any leastBelow lastBelow refuse fill step badRegister chainsSlice badCount badMask badChains agrees shows paired badSlice badSlices badStop badLimit badWindow badSet badCubes badList tests firstOf judged limited callFaults windowFaults setFaults cubesFaults stopFaults listFaults reach hop ends greedy filter count better choice settle keep setBy advance stage ended equals taken spare spareStop steps stopFor stopOr6 stopOf fits quiet covers seedOf before far placed closes seedAt ok lowestOr7 windowSeed slicesOf firstStop ending delivers after adding walk totalled expanding expandList seedsOf planned encoding encodeSet stopped withStop cubesEncoding encodeCubes isCharacter specifiedAt bitAt inFront sliceOf
+unfolding answers tolds answer settings refusal states showings of-formed of-seed of-written of-encoded yes digit odd beyond ones onesIn within any leastBelow lastBelow refuse fill step badRegister chainsSlice badCount badMask badChains agrees shows paired badSlice badSlices badStop badLimit badWindow badSet badCubes badList tests firstOf judged limited callFaults windowFaults setFaults cubesFaults stopFaults listFaults reach hop ends greedy filter count better choice settle keep setBy advance stage ended equals taken spare spareStop steps stopFor stopOr6 stopOf fits quiet covers seedOf before far placed closes seedAt ok lowestOr7 windowSeed slicesOf firstStop ending delivers after adding walk totalled expanding expandList seedsOf planned encoding encodeSet stopped withStop cubesEncoding encodeCubes isCharacter specifiedAt bitAt inFront sliceOf
 starred = refl

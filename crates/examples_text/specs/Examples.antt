@@ -46,7 +46,8 @@ use Rattle.text_write_numbers.specs.Numerals.{glyph, lastDigits, numeral}
 use Rattle.text_write_characters.specs.Characters.{character, characters as charactersOf, sliceLine}
 use Rattle.text_write_numbers.specs.Lines.{numberLine, numberLines}
 use Rattle.text_write_slices.specs.Slices.{sliceLines}
-use Rattle.text_write_list.specs.SeedList.{headText, listText}
+use Rattle.text_head.specs.Before.{linesBefore}
+use Rattle.text_write_list.specs.SeedList.{listText}
 use Rattle.text_write_refusal.specs.Refused.{refusedText}
 use Rattle.text_encode_said.specs.Encoded.{listReply, encoded}
 use Rattle.text_expand_said.specs.Expanded.{slicesReply, expanded}
@@ -167,6 +168,25 @@ table =
     ∷ record { asked = expand (R "stop=0x\nslices=4\nseed=3\n"); told = prints (bytes "refused=14\nat=2\n") }
     -- every line is read before that
     ∷ record { asked = expand (R "stop=0x\nslices=4\nseed=8\nseed=g\n"); told = prints (bytes "refused=13\nat=9\n") }
+    -- R-3, document 02: the list repeats the window line, `window=256` too, and is read with it; depth 4 is lawful with a limit of 2
+    ∷ record { asked = encode (R "window=2\ndepth=4\nslice=xx\nslice=xx\nslice=xx\nslice=xx\n"); told = prints (bytes "cells=3\ntaps=6\nchains=2\nchain=1\nchain=4\nwindow=2\nstop=1x\nslices=4\nseed=6\nseed=6\n") }
+    ∷ record { asked = encode (R "window=256\ndepth=2\nslice=10\nslice=x1\nslice=1x\nslice=1x\n"); told = prints (bytes "cells=3\ntaps=6\nchains=2\nchain=1\nchain=4\nwindow=256\nstop=0x\nslices=4\nseed=3\nseed=3\n") }
+    ∷ record { asked = encode (R "window=2\ndepth=1\nslice=00\nslice=11\n"); told = prints (bytes "cells=3\ntaps=6\nchains=2\nchain=1\nchain=4\nwindow=2\nstop=10\nslices=2\nseed=2\n") }
+    ∷ record { asked = encode (R "window=1\ndepth=1\nslice=00\nslice=11\n"); told = prints (bytes "refused=8\nat=0\n") }
+    ∷ record { asked = expand (R "window=2\nstop=0x\nslices=4\nseed=3\nseed=3\n"); told = prints (bytes "slice=10\nslice=11\nslice=10\nslice=11\n") }
+    ∷ record { asked = expand (R "window=1\nstop=0x\nslices=4\nseed=3\nseed=3\n"); told = prints (bytes "refused=12\nat=0\n") }
+    -- a limit of 0 or 257 is out of range; a leading zero and five digits are out of form
+    ∷ record { asked = encode (R "window=0\n"); told = prints (bytes "refused=3\nat=6\n") }
+    ∷ record { asked = encode (R "window=257\n"); told = prints (bytes "refused=3\nat=6\n") }
+    ∷ record { asked = expand (R "window=257\n"); told = prints (bytes "refused=3\nat=6\n") }
+    ∷ record { asked = encode (R "window=02\n"); told = prints (bytes "refused=13\nat=6\n") }
+    ∷ record { asked = expand (R "window=10000\n"); told = prints (bytes "refused=13\nat=6\n") }
+    -- the line twice, before the chain lines, after depth, after stop; and a sheet that ends after it
+    ∷ record { asked = encode (R "window=2\nwindow=2\n"); told = prints (bytes "refused=13\nat=7\n") }
+    ∷ record { asked = encode (bytes "cells=3\ntaps=6\nchains=2\nwindow=2\n"); told = prints (bytes "refused=13\nat=4\n") }
+    ∷ record { asked = encode (R "depth=2\nwindow=2\n"); told = prints (bytes "refused=13\nat=7\n") }
+    ∷ record { asked = expand (R "stop=0x\nwindow=2\n"); told = prints (bytes "refused=13\nat=7\n") }
+    ∷ record { asked = encode (R "window=2\n"); told = prints (bytes "refused=13\nat=7\n") }
     -- the sheet's list in a buffer with one byte more, and with one byte less: 71 bytes, 2 seeds
     ∷ record { asked = encode-into 72 (R "depth=2\nslice=10\nslice=x1\nslice=1x\nslice=1x\n"); told = leaves (Text 71 2) (bytes "cells=3\ntaps=6\nchains=2\nchain=1\nchain=4\nstop=0x\nslices=4\nseed=3\nseed=3\n" ++ old 1) }
     ∷ record { asked = encode-into 70 (R "depth=2\nslice=10\nslice=x1\nslice=1x\nslice=1x\n"); told = leaves (Refused (record { number = 9; value = 71 }) 2) (old 70) }
@@ -183,5 +203,5 @@ tolds [] = []
 tolds (r ∷ rs) = r .told ∷ tolds rs
 
 pub worked : answers table ≡ tolds table
-unfolding answers tolds answer of-call ones onesIn within any leastBelow lastBelow digit odd beyond refuse fill step badRegister slice badCount badMask badChains agrees shows paired badSlice badSlices badStop badLimit badSet badCubes badList tests firstOf judged limited callFaults cubesFaults listFaults reach hop ends greedy filter count better choice settle keep setBy advance stage ended equals taken spare spareStop steps stopFor fits quiet covers seedOf before far placed closes seedAt ok slicesOf firstStop ending delivers after adding walk totalled expanding expandList seedsOf planned encoding stopped withStop cubesEncoding encodeCubes starts rows rowAt name keyOf same notation longest most range cause worth digits leadingZero number isCharacter specifiedAt bitAt inFront sliceOf numbered sliced characters valued keyed named formed split runOf moved afterKey missing mayStand among inOrder mayEnd outside outOfRange tested ranged saying endOf reading readingOf picked glyph lastDigits numeral character charactersOf numberLine numberLines sliceLine sliceLines headText listText refusedText listReply slicesReply encoded expanded sheetReply seedListReply concluded printed replyTo printedFor answered called callOf
+unfolding answers tolds answer of-call ones onesIn within any leastBelow lastBelow digit odd beyond refuse fill step badRegister slice badCount badMask badChains agrees shows paired badSlice badSlices badStop badLimit badSet badCubes badList tests firstOf judged limited callFaults cubesFaults listFaults reach hop ends greedy filter count better choice settle keep setBy advance stage ended equals taken spare spareStop steps stopFor fits quiet covers seedOf before far placed closes seedAt ok slicesOf firstStop ending delivers after adding walk totalled expanding expandList seedsOf planned encoding stopped withStop cubesEncoding encodeCubes starts rows rowAt name keyOf same notation longest most range cause worth digits leadingZero number isCharacter specifiedAt bitAt inFront sliceOf numbered sliced characters valued keyed named formed split runOf moved afterKey missing mayStand among inOrder mayEnd outside outOfRange tested ranged saying endOf reading readingOf picked glyph lastDigits numeral character charactersOf numberLine numberLines sliceLine sliceLines linesBefore listText refusedText listReply slicesReply encoded expanded sheetReply seedListReply concluded printed replyTo printedFor answered called callOf
 worked = refl
