@@ -11,13 +11,14 @@ ghost use Rattle.machine_settings.specs.Machine.{machine};
 ghost use Rattle.machine_slices.specs.declared.TestSlice.{TestSlice};
 ghost use Rattle.machine_slices.specs.Slices.{badSlices, paired};
 ghost use Rattle.theory_covering.specs.Rules.{segmentRules};
+ghost use Rattle.refusal_lengths.specs.Lengths.{mostLimit};
 ghost use Rattle.theory_covering.specs.Windows.{far as farOf};
 ghost use Rattle.window_tables.specs.Tables.{TablesFor};
 ghost use Rattle.encoder_gathering.specs.Gathering.{gathered, gatheredSeeds};
 
 // How far a window from a start may go: up to the limit, and not beyond the segment.
 fn far(settings: Settings, slices: usize, start: usize) -> usize
-    requires { ⌜ (settings .limit ≤ 256) × (start ≤ 2048) ⌝ }
+    requires { ⌜ (settings .limit ≤ mostLimit) × (start ≤ 2048) ⌝ }
     ensures { λ r. ⌜ ((stop : TestSlice) (closing : Bool) → r ≡ farOf (segmentRules settings stop closing) slices start) ⌝ }
 {
     words_bounded::lesser(slices, start + settings.limit)
@@ -38,7 +39,7 @@ pub fn gather(
 ) -> Gathered
     requires ready { ⌜ TablesFor sought (now masks) (now table) (now stops) (suc (min (sought .settings .limit) (length (now specified)))) ⌝ }
     requires slices { ⌜ badSlices (length (now masks)) (now specified) (now bits) ≡ false ⌝ }
-    requires lengths { ⌜ (sought .settings .limit ≤ 256) × (length (now specified) ≤ 2048) × (length (now specified) ≤ length (now seeds)) ⌝ }
+    requires lengths { ⌜ (sought .settings .limit ≤ mostLimit) × (length (now specified) ≤ 2048) × (length (now specified) ≤ length (now seeds)) ⌝ }
     requires earlier { ⌜ (earlier .count ≤ earlier .place) × (earlier .place ≤ length (now specified)) ⌝ }
     ensures answer { λ r. ⌜ r ≡ gathered (machine (sought .settings) (now (masks .entry))) (segmentRules (sought .settings) (sought .stop) (sought .closing)) (paired (now (specified .entry)) (now (bits .entry))) earlier ⌝ }
     ensures buffer { λ _. ⌜ now (seeds .exit) ≡ sets (now (seeds .entry)) (earlier .count) (gatheredSeeds (machine (sought .settings) (now (masks .entry))) (segmentRules (sought .settings) (sought .stop) (sought .closing)) (paired (now (specified .entry)) (now (bits .entry))) (earlier .place)) ⌝ }

@@ -24,8 +24,14 @@ fn reply_list(
     match encoded {
         Encoded::Seeds(stop, n) => {
             let count = words_bounded::lesser(n, seeds.len());
-            let written =
-                text_write_list::write_list(out, head, chains, stop, slices, &seeds[..count]);
+            let written = text_write_list::write_list(
+                out,
+                head,
+                chains,
+                stop,
+                slices,
+                &seeds[..count],
+            );
             text_replies::answered(n, written)
         }
         Encoded::Refused(cause) => Answer::Refused(refusal_causes::refusal_of(cause), 0),
