@@ -1,31 +1,32 @@
 // Holds the brute force: every state of a small register and every cutting of a set.
-// Follows document 01, "Covering and cutting", word by word.
+// Follows document 01, "Covering and cutting", word by word, with document 02, R-3: the
+// window limit stands where 256 stood. The limit is tested here once more, by itself.
 
-use crate::check::{
-    check_chains, check_register, check_slice_count, check_slices, check_stop, check_window_length,
-};
+use crate::check::{check_chains, check_register, check_slices, check_stop};
 use crate::register::{agrees, low_bits, shows, slice, step};
-use crate::{refuse, Refused, LONGEST_WINDOW};
+use crate::{refuse, Refused, GREATEST_LIMIT, MOST_SLICES};
 
 /// Most cells for the brute force.
 pub const MOST_BRUTE_CELLS: u64 = 16;
 
-/// A register, its chains and a stop slice.
+/// A register, its window limit, chains and a stop slice.
 struct Setting<'a> {
     cells: u64,
     taps: u64,
+    limit: u64,
     masks: &'a [u64],
     stop_spec: u64,
     stop_bits: u64,
 }
 
-/// `table[start][m-1]`: the lowest state that covers the window of m slices from `start`.
+/// `table[start][m-1]`: the lowest state that covers the window of m slices from `start`,
+/// for m up to the number of slices or the limit.
 type Table = Vec<Vec<Option<u64>>>;
 
 /// What the brute force finds of a set.
 #[derive(Clone, Debug, PartialEq, Eq)]
 pub struct BruteSet {
-    /// The fewest windows of any cutting; None if the set can't be cut.
+    /// The fewest windows, within the limit, of any cutting; None if the set can't be cut.
     pub fewest: Option<usize>,
     /// The slices in the longest start that can be cut.
     pub longest_start: usize,
@@ -33,6 +34,19 @@ pub struct BruteSet {
     pub seeds: Vec<u64>,
     /// The slices in the windows of these seeds.
     pub reached: usize,
+}
+
+impl BruteSet {
+    /// True if the longest windows keep the promises for a set of so many slices: they end
+    /// with the set exactly when it can be cut, and are then the fewest; otherwise they end
+    /// with the longest start that can be cut.
+    pub fn rule_is_best(&self, slices: usize) -> bool {
+        let fewest = match self.fewest {
+            None => self.reached < slices,
+            Some(windows) => self.reached == slices && self.seeds.len() == windows,
+        };
+        fewest && self.reached == self.longest_start
+    }
 }
 
 impl Setting<'_> {
@@ -51,10 +65,18 @@ impl Setting<'_> {
         shows(self.stop_spec, self.stop_bits, v)
     }
 
-    /// True if the state covers the window.
+    /// True if the limit is one that document 02 allows.
+    fn limit_is_lawful(&self) -> bool {
+        self.limit != 0 && self.limit <= GREATEST_LIMIT
+    }
+
+    /// True if the state covers the window. A limit that isn't lawful allows no window.
     fn covers(&self, spec: &[u64], bits: &[u64], state: u64) -> bool {
         let length = spec.len();
-        if !(1..=LONGEST_WINDOW).contains(&length) || bits.len() != length {
+        if length == 0 || bits.len() != length {
+            return false;
+        }
+        if !self.limit_is_lawful() || length as u64 > self.limit {
             return false;
         }
         if state & !low_bits(self.cells) != 0 {
@@ -71,11 +93,11 @@ impl Setting<'_> {
         self.shows(self.slice(now))
     }
 
-    /// The first of the slices 0 to 256 that shows the stop. A state covers no window of
-    /// another length.
+    /// The first of the slices 0 to `limit` that shows the stop. A state covers no window
+    /// of another length.
     fn first_stop(&self, state: u64) -> Option<usize> {
         let mut now = state;
-        for t in 0..=LONGEST_WINDOW {
+        for t in 0..=self.limit as usize {
             if self.shows(self.slice(now)) {
                 return Some(t);
             }
@@ -84,19 +106,21 @@ impl Setting<'_> {
         None
     }
 
-    /// The causes 1 to 5, with the test of the number of slices.
-    fn check(&self, spec: &[u64], bits: &[u64], count: Result<(), Refused>) -> Result<(), Refused> {
+    /// The causes 1 to 5, for at most `most` slices.
+    fn check(&self, spec: &[u64], bits: &[u64], most: u64) -> Result<(), Refused> {
         let chains = self.masks.len() as u64;
         check_register(self.cells, self.taps)?;
         check_chains(self.cells, self.masks)?;
-        count?;
+        if !self.limit_is_lawful() || spec.is_empty() || spec.len() as u64 > most {
+            return refuse(3, 0);
+        }
         check_slices(chains, spec, bits)?;
         check_stop(chains, self.stop_spec, self.stop_bits)
     }
 
     /// The lowest covering state of every window of the set.
     fn all_windows(&self, spec: &[u64], bits: &[u64]) -> Table {
-        let mut table = vec![vec![None; spec.len().min(LONGEST_WINDOW)]; spec.len()];
+        let mut table = vec![vec![None; spec.len().min(self.limit as usize)]; spec.len()];
         for state in 0..1u64 << self.cells {
             let Some(m) = self.first_stop(state) else {
                 continue;
@@ -115,12 +139,14 @@ impl Setting<'_> {
     }
 }
 
-/// For each start of the set, by its length, the fewest windows over all its cuttings.
-fn fewest_windows(table: &Table) -> Vec<Option<usize>> {
+/// For each start of the set, by its length, the fewest windows over all its cuttings. The
+/// last window of a cutting is of 1 to `limit` slices, and what is before it is a cutting
+/// of a shorter start; all of these are tried.
+fn fewest_windows(table: &Table, limit: usize) -> Vec<Option<usize>> {
     let mut fewest: Vec<Option<usize>> = vec![Some(0)];
     for end in 1..=table.len() {
         let mut best: Option<usize> = None;
-        for m in 1..=end.min(LONGEST_WINDOW) {
+        for m in 1..=end.min(limit) {
             let (Some(before), Some(_)) = (fewest[end - m], table[end - m][m - 1]) else {
                 continue;
             };
@@ -147,11 +173,13 @@ fn longest_windows(table: &Table) -> (Vec<u64>, usize) {
     (seeds, start)
 }
 
-/// True if the state covers the window.
+/// True if the state covers the window, which has 1 to `limit` slices. False for a limit
+/// out of its range: no window is within it.
 #[allow(clippy::too_many_arguments)]
 pub fn covers(
     cells: u64,
     taps: u64,
+    limit: u64,
     masks: &[u64],
     stop_spec: u64,
     stop_bits: u64,
@@ -162,6 +190,7 @@ pub fn covers(
     Setting {
         cells,
         taps,
+        limit,
         masks,
         stop_spec,
         stop_bits,
@@ -169,11 +198,14 @@ pub fn covers(
     .covers(spec, bits, state)
 }
 
-/// The seed of a window, found by trying all states. Causes 1, 2, 3, 4, 5, 7. None if
-/// causes 1 to 5 don't hold and the register has more than 16 cells.
+/// The seed of a window, found by trying all states. Causes 1, 2, 3 (the limit, or a length
+/// not 1 to the limit), 4, 5, 7. None if causes 1 to 5 don't hold and the register has more
+/// than 16 cells.
+#[allow(clippy::too_many_arguments)]
 pub fn brute_window(
     cells: u64,
     taps: u64,
+    limit: u64,
     masks: &[u64],
     stop_spec: u64,
     stop_bits: u64,
@@ -183,11 +215,12 @@ pub fn brute_window(
     let setting = Setting {
         cells,
         taps,
+        limit,
         masks,
         stop_spec,
         stop_bits,
     };
-    if let Err(refused) = setting.check(spec, bits, check_window_length(spec.len())) {
+    if let Err(refused) = setting.check(spec, bits, limit) {
         return Some(Err(refused));
     }
     if cells > MOST_BRUTE_CELLS {
@@ -201,11 +234,13 @@ pub fn brute_window(
     Some(refuse(7, 0))
 }
 
-/// What all states and all cuttings say of a set. Causes 1, 2, 3, 4, 5. None if these
-/// don't hold and the register has more than 16 cells.
+/// What all states and all cuttings say of a set. Causes 1, 2, 3 (the limit, or the number
+/// of slices), 4, 5. None if these don't hold and the register has more than 16 cells.
+#[allow(clippy::too_many_arguments)]
 pub fn brute_set(
     cells: u64,
     taps: u64,
+    limit: u64,
     masks: &[u64],
     stop_spec: u64,
     stop_bits: u64,
@@ -215,18 +250,19 @@ pub fn brute_set(
     let setting = Setting {
         cells,
         taps,
+        limit,
         masks,
         stop_spec,
         stop_bits,
     };
-    if let Err(refused) = setting.check(spec, bits, check_slice_count(spec.len() as u64)) {
+    if let Err(refused) = setting.check(spec, bits, MOST_SLICES as u64) {
         return Some(Err(refused));
     }
     if cells > MOST_BRUTE_CELLS {
         return None;
     }
     let table = setting.all_windows(spec, bits);
-    let fewest = fewest_windows(&table);
+    let fewest = fewest_windows(&table, limit as usize);
     let longest_start = fewest.iter().rposition(Option::is_some).unwrap_or(0);
     let (seeds, reached) = longest_windows(&table);
     Some(Ok(BruteSet {

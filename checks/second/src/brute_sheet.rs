@@ -1,7 +1,8 @@
 // Holds the encoding program's text as the brute force finds it.
-// Follows document 01, "Sheet and seed list".
+// Follows document 01, "Sheet and seed list", and document 02, R-3: "fewest" is meant among
+// windows up to the window limit.
 
-use crate::brute::brute_set;
+use crate::brute::{brute_set, covers, BruteSet};
 use crate::lines::refusal_text;
 use crate::sheet::Sheet;
 use crate::stop::stop_slice;
@@ -14,8 +15,8 @@ pub enum BruteText {
     Printed(Vec<u8>),
     /// The register has more than 16 cells.
     TooManyCells,
-    /// The longest windows make no cutting of fewest seeds, or don't reach the longest
-    /// start that can be cut.
+    /// The longest windows up to the limit make no cutting of fewest seeds, or don't reach
+    /// the longest start that can be cut, or aren't what their seeds deliver.
     RuleNotBest,
 }
 
@@ -27,22 +28,51 @@ pub fn brute_text(input: &[u8]) -> BruteText {
 
 fn brute_list(input: &[u8]) -> Result<BruteText, Refused> {
     let sheet = Sheet::read(input)?;
-    let (cells, taps, masks) = (sheet.head.cells, sheet.head.taps, &sheet.head.masks);
-    let (spec, bits) = (&sheet.spec, &sheet.bits);
-    let (stop_spec, stop_bits) = stop_slice(masks.len() as u64, spec, bits)?;
-    let Some(found) = brute_set(cells, taps, masks, stop_spec, stop_bits, spec, bits) else {
+    let stop = stop_slice(sheet.head.masks.len() as u64, &sheet.spec, &sheet.bits)?;
+    let Some(found) = brute_sheet(&sheet, stop) else {
         return Ok(BruteText::TooManyCells);
     };
     let found = found?;
-    let fewest = found
-        .fewest
-        .is_none_or(|windows| windows == found.seeds.len());
-    if !fewest || found.reached != found.longest_start {
+    let delivered = delivered(&sheet, stop, &found.seeds);
+    if !found.rule_is_best(sheet.spec.len()) || delivered != Some(found.reached) {
         return Ok(BruteText::RuleNotBest);
     }
     if found.fewest.is_none() {
         return refuse(8, found.longest_start as u64);
     }
-    let text = sheet.list(stop_spec, stop_bits, &found.seeds);
+    let text = sheet.list(stop.0, stop.1, &found.seeds);
     Ok(BruteText::Printed(text.into_bytes()))
+}
+
+/// What the brute force finds of the set on a sheet.
+fn brute_sheet(sheet: &Sheet, stop: (u64, u64)) -> Option<Result<BruteSet, Refused>> {
+    let head = &sheet.head;
+    brute_set(
+        head.cells,
+        head.taps,
+        head.limit(),
+        &head.masks,
+        stop.0,
+        stop.1,
+        &sheet.spec,
+        &sheet.bits,
+    )
+}
+
+/// The slices that the seeds deliver, each in a window of 1 to `limit` slices that it covers
+/// and that begins where the last one ended. None if a seed covers no such window. A state
+/// covers windows of one length only, so there is nothing to choose.
+fn delivered(sheet: &Sheet, stop: (u64, u64), seeds: &[u64]) -> Option<usize> {
+    let (cells, taps, limit) = (sheet.head.cells, sheet.head.taps, sheet.head.limit());
+    let mut start = 0;
+    for &seed in seeds {
+        let ends = start + 1..=sheet.spec.len();
+        let end = ends.take(limit as usize).find(|&end| {
+            let (spec, bits) = (&sheet.spec[start..end], &sheet.bits[start..end]);
+            let masks = &sheet.head.masks;
+            covers(cells, taps, limit, masks, stop.0, stop.1, spec, bits, seed)
+        });
+        start = end?;
+    }
+    Some(start)
 }

@@ -1,8 +1,9 @@
 // Holds the tests of what is handed in, by causes 1 to 5.
-// Follows document 01, "Refusal sheet".
+// Follows document 01, "Refusal sheet", and document 02, R-3 (window limit).
 
 use crate::register::low_bits;
-use crate::{refuse, Refused, LONGEST_WINDOW, MOST_CELLS, MOST_CHAINS, MOST_SLICES};
+use crate::{refuse, Refused, GREATEST_DEPTH, GREATEST_LIMIT};
+use crate::{MOST_CELLS, MOST_CHAINS, MOST_SLICES};
 
 /// Cause 1: the register.
 pub fn check_register(cells: u64, taps: u64) -> Result<(), Refused> {
@@ -44,15 +45,23 @@ pub fn check_chains(cells: u64, masks: &[u64]) -> Result<(), Refused> {
 
 /// Cause 3: a depth.
 pub fn check_depth(depth: u64) -> Result<(), Refused> {
-    if !(1..=LONGEST_WINDOW as u64).contains(&depth) {
+    if !(1..=GREATEST_DEPTH).contains(&depth) {
         return refuse(3, 0);
     }
     Ok(())
 }
 
-/// Cause 3: the length of a window.
-pub fn check_window_length(length: usize) -> Result<(), Refused> {
-    if !(1..=LONGEST_WINDOW).contains(&length) {
+/// Cause 3: the window limit.
+pub fn check_limit(limit: u64) -> Result<(), Refused> {
+    if !(1..=GREATEST_LIMIT).contains(&limit) {
+        return refuse(3, 0);
+    }
+    Ok(())
+}
+
+/// Cause 3: the length of a window, under a limit that is in its range.
+pub fn check_window_length(limit: u64, length: u64) -> Result<(), Refused> {
+    if !(1..=limit).contains(&length) {
         return refuse(3, 0);
     }
     Ok(())

@@ -1,9 +1,9 @@
-// Holds the list of modules, the type of a refusal and the limits.
-// Follows document 01, "Refusal sheet".
+// Holds the list of modules, the type of a refusal and the greatest values.
+// Follows document 01, "Refusal sheet", and document 02, R-3.
 
 //! Self-stopping seeds for scan slices: a second program, made from document
-//! 004 (section III.A, figure 2), document 01 and document 02, without sight of
-//! the definitions.
+//! 004 (section III.A, figure 2), document 01 and document 02, without sight
+//! of the definitions.
 
 mod brute;
 mod brute_sheet;
@@ -23,7 +23,7 @@ mod window;
 pub use brute::{brute_set, brute_window, covers, BruteSet, MOST_BRUTE_CELLS};
 pub use brute_sheet::{brute_text, BruteText};
 pub use brute_stop::{brute_stop_exists, MOST_BRUTE_CHAINS};
-pub use check::{check_chains, check_register, check_slices, check_stop};
+pub use check::{check_chains, check_limit, check_register, check_slices, check_stop};
 pub use encode::{encode_cubes, encode_set};
 pub use expand::expand;
 pub use lines::{refusal_text, slice_of, slice_text};
@@ -37,8 +37,12 @@ pub use window::window_seed;
 pub const MOST_CELLS: u64 = 64;
 /// Most chains.
 pub const MOST_CHAINS: u64 = 64;
-/// Most slices of a window, and the greatest depth.
-pub const LONGEST_WINDOW: usize = 256;
+/// The greatest window limit.
+pub const GREATEST_LIMIT: u64 = 256;
+/// The window limit of a sheet or list that has no window line.
+pub const DEFAULT_LIMIT: u64 = 256;
+/// The greatest depth.
+pub const GREATEST_DEPTH: u64 = 256;
 /// Most slices of a set, and most seeds of a list.
 pub const MOST_SLICES: usize = 2048;
 

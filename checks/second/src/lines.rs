@@ -1,8 +1,8 @@
 // Holds the reading of lines, their keys, numbers and slices, and the printing of them.
-// Follows document 01, "Sheet and seed list".
+// Follows document 01, "Sheet and seed list", and document 02, R-3 (the window line).
 
-use crate::check::{check_chain_count, check_mask, check_register};
-use crate::{refuse, Refused, MOST_CELLS, MOST_SLICES};
+use crate::check::{check_chain_count, check_limit, check_mask, check_register};
+use crate::{refuse, Refused, DEFAULT_LIMIT, MOST_CELLS, MOST_SLICES};
 
 /// Most bytes of a line, its line feed included.
 const LONGEST_LINE: usize = 80;
@@ -81,6 +81,15 @@ impl<'a> Lines<'a> {
         self.formed(decimal(value))
     }
 
+    /// The next line's decimal number if the line begins with `key`; else None, and the
+    /// line is still to be read.
+    fn decimal_if_there(&mut self, key: &[u8]) -> Result<Option<u64>, Refused> {
+        if !self.rest.starts_with(key) {
+            return Ok(None);
+        }
+        self.decimal(key).map(Some)
+    }
+
     /// The next line's hexadecimal number.
     fn hexadecimal(&mut self, key: &[u8]) -> Result<u64, Refused> {
         let value = self.value(key)?;
@@ -88,15 +97,17 @@ impl<'a> Lines<'a> {
     }
 }
 
-/// The register and chains, which a sheet and a list begin with.
+/// The register, chains and window line, which a sheet and a list begin with.
 pub struct Head {
     pub cells: u64,
     pub taps: u64,
     pub masks: Vec<u64>,
+    /// The number of the window line, if there is one.
+    window: Option<u64>,
 }
 
 impl Head {
-    /// Reads the lines cells, taps, chains and chain.
+    /// Reads the lines cells, taps, chains, chain and, if it is there, window.
     pub fn read(lines: &mut Lines) -> Result<Head, Refused> {
         let cells = lines.decimal(b"cells=")?;
         if !(1..=MOST_CELLS).contains(&cells) {
@@ -112,16 +123,31 @@ impl Head {
             lines.in_range(check_mask(cells, mask))?;
             masks.push(mask);
         }
-        Ok(Head { cells, taps, masks })
+        let window = lines.decimal_if_there(b"window=")?;
+        lines.in_range(window.map_or(Ok(()), check_limit))?;
+        Ok(Head {
+            cells,
+            taps,
+            masks,
+            window,
+        })
     }
 
-    /// Prints the lines that `read` reads.
+    /// The window limit.
+    pub fn limit(&self) -> u64 {
+        self.window.unwrap_or(DEFAULT_LIMIT)
+    }
+
+    /// Prints the lines that `read` has read: the window line only if there was one.
     pub fn print(&self, text: &mut String) {
         text.push_str(&format!("cells={}\n", self.cells));
         text.push_str(&format!("taps={:x}\n", self.taps));
         text.push_str(&format!("chains={}\n", self.masks.len()));
         for mask in &self.masks {
             text.push_str(&format!("chain={mask:x}\n"));
+        }
+        if let Some(window) = self.window {
+            text.push_str(&format!("window={window}\n"));
         }
     }
 }

@@ -1,5 +1,5 @@
 // Holds the seed list and the expanding program's text.
-// Follows document 01, "Sheet and seed list".
+// Follows document 01, "Sheet and seed list", and document 02, R-3 (the window line).
 
 use crate::check::{check_slice_count, check_stop};
 use crate::expand::expand;
@@ -44,6 +44,7 @@ fn expanded(input: &[u8]) -> Result<String, Refused> {
     let count = expand(
         list.head.cells,
         list.head.taps,
+        list.head.limit(),
         &list.head.masks,
         list.stop_spec,
         list.stop_bits,

@@ -1,5 +1,5 @@
 // Holds the sheet of test slices and the encoding program's text.
-// Follows document 01, "Sheet and seed list".
+// Follows document 01, "Sheet and seed list", and document 02, R-3 (the window line).
 
 use crate::check::{check_cubes, check_depth};
 use crate::encode::encode_cubes;
@@ -52,6 +52,7 @@ fn encoded(input: &[u8]) -> Result<String, Refused> {
     let (stop_spec, stop_bits, count) = encode_cubes(
         sheet.head.cells,
         sheet.head.taps,
+        sheet.head.limit(),
         &sheet.head.masks,
         sheet.depth,
         &sheet.spec,

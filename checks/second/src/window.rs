@@ -1,14 +1,20 @@
 // Holds the seed of a window and the longest covered window at a place of a set.
-// Follows document 01, "Covering and cutting".
+// Follows document 01, "Covering and cutting", with document 02, R-3: the window limit
+// stands where 256 stood.
 
-use crate::check::{check_chains, check_register, check_slices, check_stop, check_window_length};
+use crate::check::{
+    check_chains, check_limit, check_register, check_slices, check_stop, check_window_length,
+};
 use crate::plane::Plane;
 use crate::search::Search;
-use crate::{refuse, Refused, LONGEST_WINDOW};
+use crate::{refuse, Refused};
 
-/// A register with its chains and a stop slice, in a form made for the search.
+/// A register with its window limit, chains and a stop slice, in a form made for the search.
 pub struct Machine {
     cells: u64,
+    /// Most slices of a window. The lists below reach slice `limit`, the last that can be
+    /// a window's stop.
+    limit: usize,
     /// `rows[t][j]`: the cells of a seed whose sum is the bit of chain j+1 in slice t.
     rows: Vec<Vec<u64>>,
     /// `shown[t]`: slice t shows the stop exactly when, for each of these pairs, the
@@ -34,10 +40,19 @@ fn row_before_step(taps: u64, row: u64) -> u64 {
 }
 
 impl Machine {
-    /// For a register, chains and a stop slice that have passed causes 1, 2 and 5.
-    pub fn new(cells: u64, taps: u64, masks: &[u64], stop_spec: u64, stop_bits: u64) -> Machine {
+    /// For a register, chains, a window limit and a stop slice that have passed causes 1,
+    /// 2, 3 and 5.
+    pub fn new(
+        cells: u64,
+        taps: u64,
+        limit: u64,
+        masks: &[u64],
+        stop_spec: u64,
+        stop_bits: u64,
+    ) -> Machine {
+        let limit = limit as usize;
         let mut rows = vec![masks.to_vec()];
-        for t in 0..LONGEST_WINDOW {
+        for t in 0..limit {
             let next = rows[t]
                 .iter()
                 .map(|&row| row_before_step(taps, row))
@@ -47,14 +62,20 @@ impl Machine {
         let stop = specified(stop_spec, stop_bits);
         let shown_by = |row: &Vec<u64>| stop.iter().map(|&(j, bit)| (row[j], bit)).collect();
         let shown = rows.iter().map(shown_by).collect();
-        Machine { cells, rows, shown }
+        Machine {
+            cells,
+            limit,
+            rows,
+            shown,
+        }
     }
 
     /// Planes for the lengths from 0 on: the plane at m holds all states whose slices 0
-    /// to m-1 agree with the first m slices. Ends before the first length that has none.
+    /// to m-1 agree with the first m slices. Ends at the limit, at the last slice, or
+    /// before the first length that has none.
     fn agreeing(&self, spec: &[u64], bits: &[u64]) -> Vec<Plane> {
         let mut planes = vec![Plane::all(self.cells)];
-        for (t, (&places, &values)) in spec.iter().zip(bits).take(LONGEST_WINDOW).enumerate() {
+        for (t, (&places, &values)) in spec.iter().zip(bits).take(self.limit).enumerate() {
             let mut plane = planes[t].clone();
             for (place, bit) in specified(places, values) {
                 if !plane.keep_row(self.rows[t][place], bit) {
@@ -77,7 +98,7 @@ impl Machine {
         Search::new(plane, &self.shown[..m])?.lowest()
     }
 
-    /// The lowest state that covers the window, of 1 to 256 slices.
+    /// The lowest state that covers the window, whose length is within the limit.
     pub fn seed(&self, spec: &[u64], bits: &[u64]) -> Option<u64> {
         let mut planes = self.agreeing(spec, bits);
         if planes.len() <= spec.len() {
@@ -86,8 +107,9 @@ impl Machine {
         self.stopping_at(planes.pop()?, spec.len())
     }
 
-    /// The longest covered window that the slices begin with, and its seed. A length that
-    /// isn't covered says nothing of a longer one, so all are tried, the longest first.
+    /// The longest covered window, within the limit, that the slices begin with, and its
+    /// seed. A length that isn't covered says nothing of a longer one, so all are tried,
+    /// the longest first.
     pub fn longest(&self, spec: &[u64], bits: &[u64]) -> Option<(usize, u64)> {
         let planes = self.agreeing(spec, bits);
         for (m, plane) in planes.into_iter().enumerate().skip(1).rev() {
@@ -99,10 +121,13 @@ impl Machine {
     }
 }
 
-/// The seed of a window: the lowest covering state. Causes 1, 2, 3, 4, 5, 7.
+/// The seed of a window: the lowest covering state. Causes 1, 2, 3 (the limit, or a length
+/// not 1 to the limit), 4, 5, 7.
+#[allow(clippy::too_many_arguments)]
 pub fn window_seed(
     cells: u64,
     taps: u64,
+    limit: u64,
     masks: &[u64],
     stop_spec: u64,
     stop_bits: u64,
@@ -111,10 +136,12 @@ pub fn window_seed(
 ) -> Result<u64, Refused> {
     check_register(cells, taps)?;
     check_chains(cells, masks)?;
-    check_window_length(spec.len())?;
+    check_limit(limit)?;
+    check_window_length(limit, spec.len() as u64)?;
     check_slices(masks.len() as u64, spec, bits)?;
     check_stop(masks.len() as u64, stop_spec, stop_bits)?;
-    match Machine::new(cells, taps, masks, stop_spec, stop_bits).seed(spec, bits) {
+    let machine = Machine::new(cells, taps, limit, masks, stop_spec, stop_bits);
+    match machine.seed(spec, bits) {
         Some(seed) => Ok(seed),
         None => refuse(7, 0),
     }

@@ -4,7 +4,8 @@
 
 mod common;
 
-use common::{one, refused, set};
+use common::cores::{free, Core};
+use common::{one, refused, set, LIMIT};
 use second::*;
 
 const MASKS: [u64; 2] = [1, 4];
@@ -13,8 +14,8 @@ const MASKS: [u64; 2] = [1, 4];
 fn window(texts: &[&str]) -> Result<u64, Refused> {
     let (spec, bits) = set(texts);
     let (stop_spec, stop_bits) = one("01");
-    let exact = window_seed(3, 6, &MASKS, stop_spec, stop_bits, &spec, &bits);
-    let brute = brute_window(3, 6, &MASKS, stop_spec, stop_bits, &spec, &bits);
+    let exact = window_seed(3, 6, LIMIT, &MASKS, stop_spec, stop_bits, &spec, &bits);
+    let brute = brute_window(3, 6, LIMIT, &MASKS, stop_spec, stop_bits, &spec, &bits);
     assert_eq!(Some(exact), brute);
     exact
 }
@@ -105,11 +106,13 @@ fn set_of_r_that_cannot_be_cut() {
     let (stop_spec, stop_bits) = one("01");
     for space in 0..3 {
         let mut out = vec![9; space];
-        let answer = encode_set(3, 6, &MASKS, stop_spec, stop_bits, &spec, &bits, &mut out);
+        let answer = encode_set(
+            3, 6, LIMIT, &MASKS, stop_spec, stop_bits, &spec, &bits, &mut out,
+        );
         assert_eq!(answer, refused(8, 1));
         assert_eq!(out, vec![9; space]);
     }
-    let brute = brute_set(3, 6, &MASKS, stop_spec, stop_bits, &spec, &bits);
+    let brute = brute_set(3, 6, LIMIT, &MASKS, stop_spec, stop_bits, &spec, &bits);
     let found = brute.unwrap().unwrap();
     assert_eq!(
         (found.fewest, found.longest_start, found.reached),
@@ -131,7 +134,9 @@ fn seeds_of_r_refused() {
         (&[3], 14, 2),
         (&[3, 3, 3], 14, 6),
     ] {
-        let answer = expand(3, 6, &MASKS, stop_spec, stop_bits, 4, seeds, &mut out);
+        let answer = expand(
+            3, 6, LIMIT, &MASKS, stop_spec, stop_bits, 4, seeds, &mut out,
+        );
         assert_eq!(answer, refused(number, value), "{seeds:?}");
         assert_eq!(out, [9; 4]);
     }
@@ -142,13 +147,14 @@ fn the_sheet_as_calls() {
     let (spec, bits) = set(&["10", "x1", "1x", "1x"]);
     let (stop_spec, stop_bits) = one("0x");
     let mut out = [9; 4];
-    let answer = encode_cubes(3, 6, &MASKS, 2, &spec, &bits, &mut out);
+    let answer = encode_cubes(3, 6, LIMIT, &MASKS, 2, &spec, &bits, &mut out);
     assert_eq!(answer, Ok((stop_spec, stop_bits, 2)));
     assert_eq!(out, [3, 3, 9, 9]);
     let mut slices = [9; 5];
     let answer = expand(
         3,
         6,
+        LIMIT,
         &MASKS,
         stop_spec,
         stop_bits,
@@ -165,111 +171,78 @@ fn a_buffer_one_entry_short() {
     let (spec, bits) = set(&["10", "x1", "1x", "1x"]);
     let (stop_spec, stop_bits) = one("0x");
     let mut out = [9];
-    let answer = encode_cubes(3, 6, &MASKS, 2, &spec, &bits, &mut out);
+    let answer = encode_cubes(3, 6, LIMIT, &MASKS, 2, &spec, &bits, &mut out);
     assert_eq!(answer, refused(9, 2));
-    let answer = encode_set(3, 6, &MASKS, stop_spec, stop_bits, &spec, &bits, &mut out);
+    let answer = encode_set(
+        3, 6, LIMIT, &MASKS, stop_spec, stop_bits, &spec, &bits, &mut out,
+    );
     assert_eq!(answer, refused(9, 2));
     assert_eq!(out, [9]);
     let mut slices = [9; 3];
-    let answer = expand(3, 6, &MASKS, stop_spec, stop_bits, 4, &[3, 3], &mut slices);
+    let answer = expand(
+        3,
+        6,
+        LIMIT,
+        &MASKS,
+        stop_spec,
+        stop_bits,
+        4,
+        &[3, 3],
+        &mut slices,
+    );
     assert_eq!(answer, refused(9, 4));
     assert_eq!(slices, [9; 3]);
 }
 
-/// 12 cells of period 4,095, one chain for each cell.
-const TAPS_12: u64 = 0b1110_0000_1000;
+/// 12 cells of period 4,095, one chain for each cell, and a stop that one state shows.
+fn core_12() -> Core {
+    Core {
+        cells: 12,
+        taps: 0b1110_0000_1000,
+        masks: (0..12).map(|cell| 1 << cell).collect(),
+        stop: (0xfff, 0xfff),
+    }
+}
 
-fn masks_12() -> Vec<u64> {
-    (0..12).map(|cell| 1 << cell).collect()
+/// The state whose first stop is in slice `t`.
+fn stopping_at(core: &Core, t: usize) -> u64 {
+    let mut states = (0..4096).filter(|&state| core.first_stop(state, t) == Some(t));
+    let state = states.next().unwrap();
+    assert_eq!(states.next(), None);
+    state
 }
 
 #[test]
 fn windows_of_256_and_257_slices() {
-    let (masks, stop) = (masks_12(), 0xfff);
-    let free = vec![0; 300];
-    let mut before = 0;
-    for state in 1..4096 {
-        let mut now = state;
-        let mut seen = Vec::new();
-        for _ in 0..=256 {
-            seen.push(now);
-            now = step(12, TAPS_12, now);
-        }
-        if seen.iter().position(|&state| state == stop) == Some(256) {
-            before = state;
-        }
-    }
-    assert_ne!(before, 0);
-    let exact = |count: usize| {
-        window_seed(
-            12,
-            TAPS_12,
-            &masks,
-            stop,
-            stop,
-            &free[..count],
-            &free[..count],
-        )
-    };
+    let core = core_12();
+    let before = stopping_at(&core, 256);
+    let exact = |count| core.window(LIMIT, &free(count), &free(count));
     assert_eq!(exact(0), refused(3, 0));
     assert_eq!(exact(256), Ok(before));
     assert_eq!(exact(257), refused(3, 0));
-    let mut out = [9; 3];
-    let answer = encode_set(
-        12,
-        TAPS_12,
-        &masks,
-        stop,
-        stop,
-        &free[..257],
-        &free[..257],
-        &mut out,
-    );
-    assert_eq!(answer, Ok(2));
-    assert_eq!(out[0], before);
-    assert_eq!(step(12, TAPS_12, out[1]), stop);
-    assert_eq!(out[2], 9);
+    let seeds = core.set(LIMIT, &free(257), &free(257)).unwrap();
+    assert_eq!(seeds, [before, stopping_at(&core, 1)]);
+    assert_eq!(step(core.cells, core.taps, seeds[1]), 0xfff);
     // Slice 256 may show the stop in expanding, slice 257 is too late.
-    let mut slices = [9; 256];
-    let answer = expand(12, TAPS_12, &masks, stop, stop, 256, &[before], &mut slices);
-    assert_eq!(answer, Ok(256));
-    let earlier = (0..4096)
-        .find(|&state| step(12, TAPS_12, state) == before)
-        .unwrap();
-    let answer = expand(
-        12,
-        TAPS_12,
-        &masks,
-        stop,
-        stop,
-        256,
-        &[earlier],
-        &mut slices,
-    );
-    assert_eq!(answer, refused(12, 0));
+    let slices = core.expand(LIMIT, 256, &[before]).unwrap();
+    assert_eq!(slices.len(), 256);
+    let earlier = stopping_at(&core, 257);
+    assert_eq!(core.expand(LIMIT, 256, &[earlier]), refused(12, 0));
 }
 
 #[test]
 fn sets_of_2048_and_2049_slices() {
-    let (masks, stop) = (masks_12(), 0xfff);
-    let free = vec![0; 2049];
-    let mut out = vec![9; 2049];
-    let mut encode = |count: usize| {
-        let free = &free[..count];
-        encode_set(12, TAPS_12, &masks, stop, stop, free, free, &mut out)
-    };
+    let core = core_12();
+    let encode = |count| core.set(LIMIT, &free(count), &free(count)).map(|s| s.len());
     assert_eq!(encode(2048), Ok(8));
     assert_eq!(encode(2049), refused(3, 0));
     assert_eq!(encode(0), refused(3, 0));
-    assert_eq!(stop_slice(12, &free, &free), refused(3, 0));
-    assert_eq!(stop_slice(12, &free[..2048], &free[..2048]), Ok((1, 1)));
+    assert_eq!(stop_slice(12, &free(2049), &free(2049)), refused(3, 0));
+    assert_eq!(stop_slice(12, &free(2048), &free(2048)), Ok((1, 1)));
     let seeds = vec![0; 2049];
-    let answer = expand(12, TAPS_12, &masks, stop, stop, 1, &seeds, &mut out);
-    assert_eq!(answer, refused(3, 0));
-    let answer = expand(12, TAPS_12, &masks, stop, stop, 2049, &seeds[..1], &mut out);
-    assert_eq!(answer, refused(3, 0));
-    let answer = expand(12, TAPS_12, &masks, stop, stop, 1, &seeds[..2048], &mut out);
-    assert_eq!(answer, refused(12, 0));
+    assert_eq!(core.expand(LIMIT, 1, &seeds), refused(3, 0));
+    assert_eq!(core.expand(LIMIT, 2049, &seeds[..1]), refused(3, 0));
+    assert_eq!(core.expand(LIMIT, 1, &seeds[..2048]), refused(12, 0));
 }
 
 #[test]
@@ -281,13 +254,13 @@ fn taps_in_cell_63_only() {
     // Slice t is cell 63-t of the seed for t below 64, then the same again.
     for m in 1..=256u64 {
         let free = vec![0; m as usize];
-        let answer = window_seed(64, last, &[last], 1, 1, &free, &free);
+        let answer = window_seed(64, last, LIMIT, &[last], 1, 1, &free, &free);
         let wanted = if m < 64 { Ok(last >> m) } else { refused(7, 0) };
         assert_eq!(answer, wanted, "{m}");
     }
     let mut out = [9; 5];
     let free = [0; 200];
-    let answer = encode_set(64, last, &[last], 1, 1, &free, &free, &mut out);
+    let answer = encode_set(64, last, LIMIT, &[last], 1, 1, &free, &free, &mut out);
     assert_eq!(answer, Ok(4));
     assert_eq!(out, [1, 1, 1, 1 << 52, 9]);
 }
@@ -299,13 +272,13 @@ fn equal_masks_are_lawful() {
     let (spec, bits) = set(&["0x", "x0"]);
     let (same_spec, same_bits) = one("11");
     assert_eq!(
-        window_seed(3, 6, &masks, same_spec, same_bits, &spec, &bits),
+        window_seed(3, 6, LIMIT, &masks, same_spec, same_bits, &spec, &bits),
         Ok(1)
     );
     let (other_spec, other_bits) = one("01");
-    let answer = window_seed(3, 6, &masks, other_spec, other_bits, &spec, &bits);
+    let answer = window_seed(3, 6, LIMIT, &masks, other_spec, other_bits, &spec, &bits);
     assert_eq!(answer, refused(7, 0));
     let (spec, bits) = set(&["0x", "x1"]);
-    let answer = window_seed(3, 6, &masks, same_spec, same_bits, &spec, &bits);
+    let answer = window_seed(3, 6, LIMIT, &masks, same_spec, same_bits, &spec, &bits);
     assert_eq!(answer, refused(7, 0));
 }

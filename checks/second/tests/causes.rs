@@ -3,7 +3,7 @@
 
 mod common;
 
-use common::{refused, Random};
+use common::{refused, Random, LIMIT};
 use second::*;
 
 #[test]
@@ -22,6 +22,20 @@ fn causes_1_and_2() {
     assert_eq!(check_chains(3, &[1, 0]), refused(2, 0));
     assert_eq!(check_chains(3, &[1, 8]), refused(2, 0));
     assert_eq!(check_chains(64, &[u64::MAX]), Ok(()));
+}
+
+#[test]
+fn cause_3_of_a_limit() {
+    for limit in 0..600 {
+        let wanted = if (1..=256).contains(&limit) {
+            Ok(())
+        } else {
+            refused(3, 0)
+        };
+        assert_eq!(check_limit(limit), wanted);
+    }
+    assert_eq!(check_limit(u64::MAX), refused(3, 0));
+    assert_eq!(check_limit(1 << 32 | 1), refused(3, 0));
 }
 
 #[test]
@@ -52,8 +66,8 @@ fn causes_in_rising_order() {
     ];
     for (cells, masks, count, bit, stop, number) in rows {
         let (spec, bits) = (vec![0; count], vec![bit; count]);
-        let window = window_seed(cells, 6, &masks, stop, 0, &spec, &bits);
-        let set = encode_set(cells, 6, &masks, stop, 0, &spec, &bits, &mut out);
+        let window = window_seed(cells, 6, LIMIT, &masks, stop, 0, &spec, &bits);
+        let set = encode_set(cells, 6, LIMIT, &masks, stop, 0, &spec, &bits, &mut out);
         if number == 0 {
             assert_eq!((window, set), (Ok(1), Ok(1)));
         } else {
@@ -61,8 +75,12 @@ fn causes_in_rising_order() {
             assert_eq!(out, [9; 4]);
         }
     }
+}
+
+#[test]
+fn causes_of_cubes_stops_and_lists_in_rising_order() {
     let cubes = |cells, masks: &[u64], depth, spec: &[u64], bits: &[u64]| {
-        encode_cubes(cells, 6, masks, depth, spec, bits, &mut [9; 4]).map_err(|r| r.number)
+        encode_cubes(cells, 6, LIMIT, masks, depth, spec, bits, &mut [9; 4]).map_err(|r| r.number)
     };
     assert_eq!(cubes(4, &[0], 0, &[0], &[1]), Err(1));
     assert_eq!(cubes(3, &[0], 0, &[0], &[1]), Err(2));
@@ -77,10 +95,13 @@ fn causes_in_rising_order() {
     assert_eq!(stop_slice(65, &[], &[1]), refused(2, 0));
     assert_eq!(stop_slice(1, &[], &[1]), refused(3, 0));
     assert_eq!(stop_slice(1, &[1, 1], &[1]), refused(4, 0));
-    assert_eq!(expand(3, 6, &[1], 0, 0, 0, &[8], &mut out), refused(3, 0));
-    assert_eq!(expand(3, 6, &[1], 0, 0, 1, &[8], &mut out), refused(5, 0));
-    assert_eq!(expand(3, 6, &[0], 0, 0, 0, &[8], &mut out), refused(2, 0));
-    assert_eq!(expand(3, 2, &[0], 0, 0, 0, &[8], &mut out), refused(1, 0));
+    let list = |taps, masks: &[u64], total| {
+        expand(3, taps, LIMIT, masks, 0, 0, total, &[8], &mut []).map_err(|r| r.number)
+    };
+    assert_eq!(list(2, &[0], 0), Err(1));
+    assert_eq!(list(6, &[0], 0), Err(2));
+    assert_eq!(list(6, &[1], 0), Err(3));
+    assert_eq!(list(6, &[1], 1), Err(5));
 }
 
 /// A number that is often at a limit.
@@ -92,6 +113,15 @@ fn any_number(random: &mut Random) -> u64 {
         3 => 1 << random.below(64),
         4 => random.below(300),
         _ => random.word(),
+    }
+}
+
+/// A window limit that is mostly in its range.
+fn any_limit(random: &mut Random) -> u64 {
+    if random.percent(70) {
+        random.between(1, LIMIT)
+    } else {
+        any_number(random)
     }
 }
 
@@ -107,6 +137,7 @@ fn no_input_panics() {
         let r = &mut random;
         let (a, b, c, d) = (any_number(r), any_number(r), any_number(r), any_number(r));
         let (masks, spec, bits) = (any_list(r), any_list(r), any_list(r));
+        let limit = any_limit(r);
         let mut out = any_list(r);
         let before = out.clone();
         let _ = (
@@ -116,14 +147,15 @@ fn no_input_panics() {
             shows(a, b, c),
         );
         let _ = (check_register(a, b), check_chains(a, &masks));
+        let _ = (check_limit(a), check_limit(limit));
         let _ = (check_slices(a, &spec, &bits), check_stop(a, b, c));
         let _ = (stop_slice(a, &spec, &bits), stop_trace(a, &spec, &bits));
         let _ = spare_pattern(a, &spec, &bits);
-        let _ = window_seed(a, b, &masks, c, d, &spec, &bits);
-        let _ = covers(a, b, &masks, c, d, &spec, &bits, d);
-        let mut unchanged = encode_set(a, b, &masks, c, d, &spec, &bits, &mut out).is_err();
-        unchanged &= encode_cubes(a, b, &masks, c, &spec, &bits, &mut out).is_err();
-        unchanged &= expand(a, b, &masks, c, d, c, &spec, &mut out).is_err();
+        let _ = window_seed(a, b, limit, &masks, c, d, &spec, &bits);
+        let _ = covers(a, b, limit, &masks, c, d, &spec, &bits, d);
+        let mut unchanged = encode_set(a, b, limit, &masks, c, d, &spec, &bits, &mut out).is_err();
+        unchanged &= encode_cubes(a, b, limit, &masks, c, &spec, &bits, &mut out).is_err();
+        unchanged &= expand(a, b, limit, &masks, c, d, c, &spec, &mut out).is_err();
         assert!(!unchanged || out == before);
     }
 }

@@ -3,14 +3,12 @@
 
 mod common;
 
-use common::{refused, Random};
+use common::cores::Core;
+use common::{refused, Random, LIMIT};
 use second::*;
 
 struct Case {
-    cells: u64,
-    taps: u64,
-    masks: Vec<u64>,
-    stop: (u64, u64),
+    core: Core,
     spec: Vec<u64>,
     bits: Vec<u64>,
 }
@@ -33,59 +31,33 @@ fn fixed_case(
     count: u64,
 ) -> Case {
     let (spec, bits) = random.slices(count, chains, share);
-    Case {
+    let core = Core {
         cells,
         taps: random.taps(cells),
         masks: random.masks(cells, chains),
         stop: random.stop(chains, stop_share),
-        spec,
-        bits,
-    }
+    };
+    Case { core, spec, bits }
 }
 
 /// Compares the whole answer of a set, its windows' seeds included, with the brute force.
 /// True if the set can be cut.
-fn same_set(case: &Case) -> bool {
-    let Case {
-        cells,
-        taps,
-        masks,
-        stop,
-        spec,
-        bits,
-    } = case;
-    let (cells, taps, stop) = (*cells, *taps, *stop);
-    let found = brute_set(cells, taps, masks, stop.0, stop.1, spec, bits)
-        .unwrap()
-        .unwrap();
-    let mut out = vec![u64::MAX; spec.len()];
-    let answer = encode_set(cells, taps, masks, stop.0, stop.1, spec, bits, &mut out);
-    assert_eq!(found.reached, found.longest_start);
+fn same_set(Case { core, spec, bits }: &Case) -> bool {
+    let found = core.brute_set(LIMIT, spec, bits).unwrap();
+    let answer = core.set(LIMIT, spec, bits);
+    assert!(found.rule_is_best(spec.len()));
     let Some(fewest) = found.fewest else {
         assert_eq!(answer, refused(8, found.longest_start as u64));
         return false;
     };
-    assert_eq!(answer, Ok(fewest));
     assert_eq!(found.seeds.len(), fewest);
-    assert_eq!(out[..fewest], found.seeds);
-    assert!(out[fewest..].iter().all(|&entry| entry == u64::MAX));
+    assert_eq!(answer, Ok(found.seeds.clone()));
     let mut short = vec![7; fewest - 1];
-    let answer = encode_set(cells, taps, masks, stop.0, stop.1, spec, bits, &mut short);
+    let answer = core.set_into(LIMIT, spec, bits, &mut short);
     assert_eq!(answer, refused(9, fewest as u64));
     assert_eq!(short, vec![7; fewest - 1]);
-    let mut slices = vec![0; spec.len()];
-    let total = spec.len() as u64;
-    let answer = expand(
-        cells,
-        taps,
-        masks,
-        stop.0,
-        stop.1,
-        total,
-        &found.seeds,
-        &mut slices,
-    );
-    assert_eq!(answer, Ok(spec.len()));
+    let slices = core.expand(LIMIT, spec.len() as u64, &found.seeds).unwrap();
+    assert_eq!(slices.len(), spec.len());
     for (place, &v) in slices.iter().enumerate() {
         assert!(agrees(spec[place], bits[place], v));
     }
@@ -142,21 +114,10 @@ fn sets_with_windows_of_up_to_256_slices() {
 }
 
 /// The number of slices in the first window of a set that can be cut.
-fn first_window(case: &Case) -> usize {
-    let Case {
-        cells,
-        taps,
-        masks,
-        stop,
-        spec,
-        bits,
-    } = case;
-    let longest = (1..=spec.len().min(256)).rev();
-    let covered = |m: &usize| {
-        let (places, values) = (&spec[..*m], &bits[..*m]);
-        window_seed(*cells, *taps, masks, stop.0, stop.1, places, values).is_ok()
-    };
-    longest.into_iter().find(covered).unwrap_or(0)
+fn first_window(Case { core, spec, bits }: &Case) -> usize {
+    let mut longest = (1..=spec.len().min(256)).rev();
+    let covered = |&m: &usize| core.window(LIMIT, &spec[..m], &bits[..m]).is_ok();
+    longest.find(covered).unwrap_or(0)
 }
 
 #[test]
@@ -164,16 +125,9 @@ fn windows_up_to_10_cells() {
     let mut random = Random(3);
     let mut covered = 0;
     for _ in 0..12_000 {
-        let Case {
-            cells,
-            taps,
-            masks,
-            stop,
-            spec,
-            bits,
-        } = case(&mut random, 10, 20);
-        let exact = window_seed(cells, taps, &masks, stop.0, stop.1, &spec, &bits);
-        let brute = brute_window(cells, taps, &masks, stop.0, stop.1, &spec, &bits);
+        let Case { core, spec, bits } = case(&mut random, 10, 20);
+        let exact = core.window(LIMIT, &spec, &bits);
+        let brute = core.brute_window(LIMIT, &spec, &bits);
         assert_eq!(Some(exact), brute);
         covered += usize::from(exact.is_ok());
     }

@@ -4,7 +4,7 @@
 
 mod common;
 
-use common::{one, refused, set, Random};
+use common::{one, refused, set, Random, LIMIT};
 use second::*;
 use std::collections::BTreeSet;
 
@@ -297,13 +297,14 @@ fn sheet(cells: u64, taps: u64, masks: &[u64], spec: &[u64], bits: &[u64]) -> St
 fn encoding_of_the_six_slices() {
     let (spec, bits) = set(&SIX);
     let mut out = [99; 6];
-    let answer = encode_cubes(6, 0x21, &[1, 8], 3, &spec, &bits, &mut out);
+    let answer = encode_cubes(6, 0x21, LIMIT, &[1, 8], 3, &spec, &bits, &mut out);
     let (stop_spec, stop_bits, count) = answer.unwrap();
     assert_eq!((stop_spec, stop_bits), one("11"));
     let mut same = [99; 6];
     let answer = encode_set(
         6,
         0x21,
+        LIMIT,
         &[1, 8],
         stop_spec,
         stop_bits,

@@ -3,7 +3,7 @@
 
 mod common;
 
-use common::Random;
+use common::{Random, LIMIT};
 use second::*;
 
 /// An affine space as its lowest state and directions, found by plain elimination of
@@ -62,13 +62,13 @@ fn row(cells: u64, taps: u64, mask: u64, t: usize) -> u64 {
     row
 }
 
-/// The lowest covering state among the first `limit` that agree and stop at the end.
+/// The lowest covering state among the first `tries` that agree and stop at the end.
 /// None if more would have to be looked at.
 fn rising(
     (cells, taps, masks, stop): (u64, u64, &[u64], (u64, u64)),
     spec: &[u64],
     bits: &[u64],
-    limit: u64,
+    tries: u64,
 ) -> Option<Option<u64>> {
     let mut equations = Vec::new();
     let slices = spec.iter().zip(bits).map(|(&s, &b)| (s, b)).chain([stop]);
@@ -88,7 +88,7 @@ fn rising(
         u64::MAX
     };
     let mut last = None;
-    for number in 0..whole.min(limit) {
+    for number in 0..whole.min(tries) {
         let mut state = low;
         for (place, direction) in directions.iter().enumerate() {
             if number >> place & 1 == 1 {
@@ -97,11 +97,11 @@ fn rising(
         }
         assert!(last.is_none_or(|before| before < state));
         last = Some(state);
-        if covers(cells, taps, masks, stop.0, stop.1, spec, bits, state) {
+        if covers(cells, taps, LIMIT, masks, stop.0, stop.1, spec, bits, state) {
             return Some(Some(state));
         }
     }
-    (whole <= limit).then_some(None)
+    (whole <= tries).then_some(None)
 }
 
 #[test]
@@ -127,7 +127,7 @@ fn windows_of_wide_registers() {
         let Some(slow) = rising(setting, &spec, &bits, 1 << 14) else {
             continue;
         };
-        let exact = window_seed(cells, taps, &masks, stop.0, stop.1, &spec, &bits);
+        let exact = window_seed(cells, taps, LIMIT, &masks, stop.0, stop.1, &spec, &bits);
         assert_eq!(exact.ok(), slow);
         match slow {
             Some(_) => covered += 1,
@@ -150,7 +150,7 @@ fn sets_of_wide_registers() {
         let masks = random.masks(64, chains);
         let (spec, bits) = random.slices(256, chains, share);
         let mut out = vec![0; 256];
-        let answer = encode_cubes(64, taps, &masks, 4, &spec, &bits, &mut out);
+        let answer = encode_cubes(64, taps, LIMIT, &masks, 4, &spec, &bits, &mut out);
         let (stop_spec, stop_bits, count) = answer.unwrap();
         assert_eq!(stop_slice(chains, &spec, &bits), Ok((stop_spec, stop_bits)));
         let mut slices = vec![0; 256];
@@ -158,6 +158,7 @@ fn sets_of_wide_registers() {
         let answer = expand(
             64,
             taps,
+            LIMIT,
             &masks,
             stop_spec,
             stop_bits,

@@ -36,22 +36,22 @@ use Rattle.text_numbers.specs.Numbers.{worth, digits, leadingZero, number}
 use Rattle.text_characters.specs.Characters.{isCharacter, specifiedAt, bitAt, inFront, sliceOf}
 use Rattle.text_lines.specs.Form.{numbered, sliced, characters, valued, keyed, named, formed}
 use Rattle.text_split.specs.Text.{split}
-use Rattle.text_place.specs.Places.{runOf, numberIf, moved}
-use Rattle.text_order.specs.Order.{after as afterKey, missing, mayStand, among, inOrder, lastKeys, mayEnd}
+use Rattle.text_place.specs.Places.{runOf, moved}
+use Rattle.text_order.specs.Order.{after as afterKey, missing, mayStand, among, inOrder, mayEnd}
 use Rattle.text_ranges.specs.Ranges.{outside, outOfRange, tested, ranged, saying}
-use Rattle.text_ending.specs.Ending.{causeOf, refusedAt, endOf}
+use Rattle.text_ending.specs.Ending.{endOf}
 use Rattle.text_reading.specs.Reading.{reading, readingOf}
 use Rattle.text_entries.specs.Said.{picked}
 use Rattle.text_write_numbers.specs.Numerals.{glyph, lastDigits, numeral}
 use Rattle.text_write_characters.specs.Characters.{character, characters as charactersOf, sliceLine}
 use Rattle.text_write_numbers.specs.Lines.{numberLine, numberLines}
 use Rattle.text_write_slices.specs.Slices.{sliceLines}
-use Rattle.text_head.specs.Before.{linesBefore}
+use Rattle.text_write_head.specs.Head.{headText}
 use Rattle.text_write_list.specs.SeedList.{listText}
 use Rattle.text_write_refusal.specs.Refused.{refusedText}
 use Rattle.text_encode_said.specs.Encoded.{listReply, encoded}
 use Rattle.text_expand_said.specs.Expanded.{slicesReply, expanded}
-use Rattle.text_encode.specs.Sheet.{sheetReply}
+use Rattle.text_encode.specs.Sheet.{replyUnder, sheetReply}
 use Rattle.text_expand.specs.List.{seedListReply}
 use Rattle.text_calls.specs.Texts.{concluded, replyTo, printedFor, callOf, encodeText, encodeCall, expandText, expandCall}
 use Rattle.text_replies.specs.Replies.{printed}
@@ -203,5 +203,5 @@ tolds [] = []
 tolds (r ∷ rs) = r .told ∷ tolds rs
 
 pub worked : answers table ≡ tolds table
-unfolding answers tolds answer of-call ones onesIn within any leastBelow lastBelow digit odd beyond refuse fill step badRegister slice badCount badMask badChains agrees shows paired badSlice badSlices badStop badLimit badSet badCubes badList tests firstOf judged limited callFaults cubesFaults listFaults reach hop ends greedy filter count better choice settle keep setBy advance stage ended equals taken spare spareStop steps stopFor fits quiet covers seedOf before far placed closes seedAt ok slicesOf firstStop ending delivers after adding walk totalled expanding expandList seedsOf planned encoding stopped withStop cubesEncoding encodeCubes starts rows rowAt name keyOf same notation longest most range cause worth digits leadingZero number isCharacter specifiedAt bitAt inFront sliceOf numbered sliced characters valued keyed named formed split runOf moved afterKey missing mayStand among inOrder mayEnd outside outOfRange tested ranged saying endOf reading readingOf picked glyph lastDigits numeral character charactersOf numberLine numberLines sliceLine sliceLines linesBefore listText refusedText listReply slicesReply encoded expanded sheetReply seedListReply concluded printed replyTo printedFor answered called callOf
+unfolding answers tolds answer of-call ones onesIn within any leastBelow lastBelow digit odd beyond refuse fill step badRegister slice badCount badMask badChains agrees shows paired badSlice badSlices badStop badLimit badSet badCubes badList tests firstOf judged limited callFaults cubesFaults listFaults reach hop ends greedy filter count better choice settle keep setBy advance stage ended equals taken spare spareStop steps stopFor fits quiet covers seedOf before far placed closes seedAt ok slicesOf firstStop ending delivers after adding walk totalled expanding expandList seedsOf planned encoding stopped withStop cubesEncoding encodeCubes starts rows rowAt name keyOf same notation longest most range cause worth digits leadingZero number isCharacter specifiedAt bitAt inFront sliceOf numbered sliced characters valued keyed named formed split runOf moved afterKey missing mayStand among inOrder mayEnd outside outOfRange tested ranged saying endOf reading readingOf picked glyph lastDigits numeral character charactersOf numberLine numberLines sliceLine sliceLines headText listText refusedText listReply slicesReply encoded expanded replyUnder sheetReply seedListReply concluded printed replyTo printedFor answered called callOf
 worked = refl

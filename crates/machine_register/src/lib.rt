@@ -18,6 +18,8 @@ pub enum Made {
 impl Register {
     // The most cells.
     pub const MOST_CELLS: usize = 64;
+    // The longest window, in slices.
+    pub const LONGEST_WINDOW: usize = 256;
 
     // The register of these cells and taps, where they are lawful.
     pub fn new(cells: usize, taps: u64) -> Made

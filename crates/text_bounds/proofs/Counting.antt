@@ -31,7 +31,7 @@ use Rattle.text_reading.specs.Reading.{onward, reading, readingOf}
 use Rattle.text_bounds.specs.Bounds.{sequence, sumOf, total, mostLines}
 use Rattle.text_bounds.proofs.Ahead.{Sound, sound-start, sound-step, ahead, ahead-step, ahead-start}
 
-unfoldable pub spent : (Key → ℕ) → List Entry → ℕ
+unfoldable spent : (Key → ℕ) → List Entry → ℕ
 spent c [] = 0
 spent c (e ∷ es) = c (e .key) + spent c es
 
@@ -52,7 +52,7 @@ module _ (c : Key → ℕ) (kind : Kind) where
           let g = ahead-step c kind p e s a in
           omega arith
 
-  pub reading-spends : (s : List ℕ) → spent c (readingOf kind s .entries) ≤ total c kind
+  reading-spends : (s : List ℕ) → spent c (readingOf kind s .entries) ≤ total c kind
   unfolding readingOf
   reading-spends s = rw (← (ahead-start c kind)) (text-spends start 1 (split s) sound-start)
 

@@ -4,7 +4,6 @@
 --     long-refused     a line of more bytes than any key allows is refused for its form
 --     accepted-short   so an accepted one has fewer
 --     enough-reads     the first `enough` bytes are read as the whole is
---     enough-lines     and a text that is read through has no lines beyond them
 -- Assumes nothing.
 use mathlib.Core.Bool.{Bool, true, false}
 use mathlib.Core.Logic.{⊎-elim}
@@ -38,8 +37,7 @@ use Rattle.text_ranges.specs.Ranges.{saying}
 use Rattle.text_ranges.proofs.Ranging.{saying-refused}
 use Rattle.text_ranges.proofs.Accepting.{refused-said, line-accepted}
 use Rattle.text_ending.specs.Ending.{refusedAt}
-use Rattle.text_ending.specs.declared.Scanned.the-variants.{Whole, Refused}
-use Rattle.text_ending.proofs.Ends.{refused-whole}
+use Rattle.text_ending.specs.declared.Scanned.the-variants.{Refused}
 use Rattle.text_reading.specs.Reading.{Reading, stops, told, onward, reading, readingOf}
 use Rattle.text_bounds.specs.Bounds.{total, longestOf, longestLine, enough}
 use Rattle.text_bounds.proofs.Ahead.{Sound, sound-start, sound-step, ahead, ahead-step, ahead-start}
@@ -106,7 +104,7 @@ module _ (kind : Kind) (p : Place) (l : List ℕ) (h : longestLine ≤ length l)
   long-onward : (n : ℕ) (next : Entry → Reading) → onward (saying kind p l) next n ≡ stops (Refused (refusedAt Form n))
   long-onward n next = rw long-refused
 
-pub accepted-short : (kind : Kind) (p : Place) (l : List ℕ) (e : Entry) → saying kind p l ≡ lines.Said e → length l < longestLine
+accepted-short : (kind : Kind) (p : Place) (l : List ℕ) (e : Entry) → saying kind p l ≡ lines.Said e → length l < longestLine
 accepted-short kind p l e t = ⊎-elim (λ h. h) (λ h. absurd (refused-said Form e (sym (long-refused kind p l h) ∙ t))) (lt-or-le (length l) longestLine)
 
 -- ---- the bytes that may still decide
@@ -153,38 +151,11 @@ module _ (kind : Kind) where
   cut-reads (rest (c ∷ o)) p n (suc b) s h = refl
   cut-reads (line l t) p n b s h = line-alike p l t n b s h (λ q m c. cut-reads t q m c)
 
-  -- A text that is read through is not cut.
-  cut-whole : (t : Text) (p : Place) (n b : ℕ) → Sound p → room p ≤ b → reading kind p n t .end ≡ Whole → cutAt b t ≡ t
-  unfolding reading cutAt
-  cut-whole (rest []) p n zero s h e = refl
-  cut-whole (rest []) p n (suc b) s h e = refl
-  cut-whole (rest (c ∷ o)) p n b s h e = absurd (refused-whole _ e)
-  cut-whole (line l t) p n b s h e = go (saying kind p l) refl e (λ q m c. cut-whole t q m c)
-    where
-      go : (a : Line) → saying kind p l ≡ a → onward a (λ f. reading kind (moved p (f .key) (f .first)) (n + 1) t) n .end ≡ Whole
-          → ((q : Place) (m c : ℕ) → Sound q → room q ≤ c → reading kind q m t .end ≡ Whole → cutAt c t ≡ t) → cutAt b (line l t) ≡ line l t
-      go (lines.Refused c) d e ih = absurd (refused-whole _ e)
-      go (lines.Said f) d e ih =
-          let a = line-accepted kind p f l d in
-          let g = ahead-step (λ k. longestLine) kind p f s a in
-          let m = accepted-short kind p l f d in
-          cut-line b l t (omega arith) ∙ ap (line l) (ih (moved p (f .key) (f .first)) (n + 1) (b - (length l + 1)) (sound-step kind p f a) (omega arith) e)
-
-  module _ (h : total (λ k. longestLine) kind + (longestLine + 1) ≤ enough) (s : List ℕ) where
-    all-room : readingOf kind (take enough s) ≡ readingOf kind s
-    unfolding readingOf
-    all-room = ap (reading kind start _) (split-cut enough s) ∙ cut-reads (split s) start _ enough sound-start (rw (ahead-start (λ k. longestLine) kind) h)
-
-    all-lines : readingOf kind s .end ≡ Whole → split (take enough s) ≡ split s
-    unfolding readingOf
-    all-lines e = split-cut enough s ∙ cut-whole (split s) start _ enough sound-start (rw (ahead-start (λ k. longestLine) kind) h) e
+  all-room : total (λ k. longestLine) kind + (longestLine + 1) ≤ enough → (s : List ℕ) → readingOf kind (take enough s) ≡ readingOf kind s
+  unfolding readingOf
+  all-room h s = ap (reading kind start _) (split-cut enough s) ∙ cut-reads (split s) start _ enough sound-start (rw (ahead-start (λ k. longestLine) kind) h)
 
 pub enough-reads : (kind : Kind) (s : List ℕ) → readingOf kind (take enough s) ≡ readingOf kind s
 unfolding enough
 enough-reads Sheet s = all-room Sheet (omega arith) s
 enough-reads SeedList s = all-room SeedList (omega arith) s
-
-pub enough-lines : (kind : Kind) (s : List ℕ) → readingOf kind s .end ≡ Whole → split (take enough s) ≡ split s
-unfolding enough
-enough-lines Sheet s = all-lines Sheet (omega arith) s
-enough-lines SeedList s = all-lines SeedList (omega arith) s

@@ -3,4 +3,3 @@ pub mod Ahead
 pub mod Counting
 pub mod Enough
 pub mod Values
-pub mod Heads

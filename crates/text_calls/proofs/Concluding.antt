@@ -1,8 +1,7 @@
 -- From the list of a reading to what the call leaves.
 --     mostNumbers       how many numbers the list has that keeps the entries
 --     kept-entries      the list keeps the entries of the reading
---     Few, few-numbers      so many chain, slice and seed lines at most
---     head-few          so many bytes at most before depth, in a sheet that is read through
+--     Few, few-numbers      so many chain, window, slice and seed lines at most
 --     call-whole        what a call leaves whose text is read through
 --     call-refused      and one whose text is refused
 -- Assumes nothing.
@@ -20,16 +19,12 @@ use Rattle.text_entries.specs.Said.{numbersFor}
 use Rattle.text_entries.specs.Flat.{flat, entriesIn}
 use Rattle.text_entries.specs.declared.Part.the-variants.{First}
 use Rattle.text_entries.proofs.Kept.{kept-back}
-use Rattle.text_split.specs.Text.{split}
-use Rattle.text_head.specs.Before.{linesBefore}
 use Rattle.text_order.specs.declared.Kind.{Kind}
-use Rattle.text_order.specs.declared.Kind.the-variants.{Sheet}
 use Rattle.text_ending.specs.declared.Scanned.{Scanned}
 use Rattle.text_ending.specs.declared.Scanned.the-variants.{Whole, Refused}
 use Rattle.text_reading.specs.Reading.{readingOf}
 use Rattle.text_bounds.proofs.Counting.{lines-few, numbers-few}
 use Rattle.text_bounds.proofs.Values.{lines-value}
-use Rattle.text_bounds.proofs.Heads.{head-short}
 use Rattle.text_replies.specs.declared.Answer.{Answer}
 use Rattle.text_replies.specs.declared.Answer.the-variants as answers
 use Rattle.text_replies.proofs.Answering.{Leaves, refused-leaves}
@@ -44,17 +39,14 @@ module _ (kind : Kind) (s : List ℕ) where
   kept-entries l e = ap entriesIn e ∙ kept-back mostNumbers (readingOf kind s .entries) (omega (arith, lines-few kind s, lines-value))
 
   abbrev Few : List Entry → Type 0
-  Few es = (length (numbersFor key.Chain es) ≤ 64) × (length (numbersFor key.Slice es) ≤ 2048) × (length (numbersFor key.Seed es) ≤ 2048)
+  Few es = (length (numbersFor key.Chain es) ≤ 64) × (length (numbersFor key.Window es) ≤ 1) × (length (numbersFor key.Slice es) ≤ 2048) × (length (numbersFor key.Seed es) ≤ 2048)
 
   pub few-numbers : Few (readingOf kind s .entries)
   unfolding most rowAt rows
-  few-numbers = (numbers-few kind s key.Chain First, numbers-few kind s key.Slice First, numbers-few kind s key.Seed First)
-
-  pub head-few : readingOf kind s .end ≡ Whole → kind ≡ Sheet → length (linesBefore key.Depth (split s)) ≤ 65536
-  head-few w e = omega (arith, head-short s (rw e at w))
+  few-numbers = (numbers-few kind s key.Chain First, numbers-few kind s key.Window First, numbers-few kind s key.Slice First, numbers-few kind s key.Seed First)
 
   module _ (out : List ℕ) (r : Scanned) (e : r ≡ readingOf kind s .end) where
-    pub call-whole : r ≡ Whole → (a : Answer) (after : List ℕ) → Leaves (replyOf kind s (readingOf kind s .entries)) out a after → (a ≡ callOf kind s out .answer) × (after ≡ callOf kind s out .buffer)
+    pub call-whole : r ≡ Whole → (a : Answer) (after : List ℕ) → Leaves (replyOf kind (readingOf kind s .entries)) out a after → (a ≡ callOf kind s out .answer) × (after ≡ callOf kind s out .buffer)
     unfolding callOf replyTo concluded
     call-whole w a after l = rw (sym e ∙ w) l
 

@@ -19,7 +19,7 @@ use Rattle.text_reading.proofs.Refusals.{EndsBy, reading-refused}
 use Rattle.text_replies.specs.Replies.{Reply, RefusedBy}
 use Rattle.text_encode_said.specs.Encoded.{encoded}
 use Rattle.text_encode_said.proofs.Refusals.{list-refused}
-use Rattle.text_encode.specs.Sheet.{sheetReply}
+use Rattle.text_encode.specs.Sheet.{replyUnder, sheetReply}
 use Rattle.text_expand_said.specs.Expanded.{expanded}
 use Rattle.text_expand_said.proofs.Refusals.{slices-refused}
 use Rattle.text_expand.specs.List.{seedListReply}
@@ -34,11 +34,11 @@ module _ (P : ℕ → Type 0) where
 line-on-sheet : (c : LineCause) (n : ℕ) → OnSheet (refusedAt c n .number)
 line-on-sheet c n = on-sheet (causeOf c 0)
 
-of-on-sheet : (kind : Kind) (s : List ℕ) (es : List Entry) → RefusedBy OnSheet (replyOf kind s es)
-unfolding sheetReply encoded seedListReply expanded
-of-on-sheet Sheet s es = list-refused OnSheet _ _ _ _ _ (λ c e. on-sheet c)
-of-on-sheet SeedList s es = slices-refused OnSheet _ _ _ (λ c e. on-sheet c)
+of-on-sheet : (kind : Kind) (es : List Entry) → RefusedBy OnSheet (replyOf kind es)
+unfolding sheetReply replyUnder encoded seedListReply expanded
+of-on-sheet Sheet es = list-refused OnSheet _ _ _ _ _ (λ c e. on-sheet c)
+of-on-sheet SeedList es = slices-refused OnSheet _ _ _ (λ c e. on-sheet c)
 
 pub reply-on-sheet : (kind : Kind) (s : List ℕ) → RefusedBy OnSheet (replyTo kind s)
 unfolding replyTo
-reply-on-sheet kind s = concluded-refused OnSheet _ _ (reading-refused OnSheet line-on-sheet kind s) (of-on-sheet kind s (readingOf kind s .entries))
+reply-on-sheet kind s = concluded-refused OnSheet _ _ (reading-refused OnSheet line-on-sheet kind s) (of-on-sheet kind (readingOf kind s .entries))

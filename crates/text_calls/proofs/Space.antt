@@ -3,7 +3,7 @@
 --     reply-within     no text of it is longer
 --     call-prints      so it leaves its text in the buffer
 -- Assumes nothing.
-use mathlib.Core.Path.{_≡_, refl}
+use mathlib.Core.Path.{_≡_}
 use mathlib.Core.List.{List}
 use Prim.Native.Nat.{ℕ, _≤_}
 use native.Mathlib.Omega.{arith}
@@ -21,22 +21,23 @@ use Rattle.text_replies.specs.declared.Answer.{Answer}
 use Rattle.text_replies.proofs.Space.{Within, Prints, prints}
 use Rattle.text_encode_said.specs.Encoded.{encoded}
 use Rattle.text_encode_said.proofs.Space.{list-within, encode-long}
-use Rattle.text_encode.specs.Sheet.{sheetReply}
+use Rattle.text_encode.specs.Sheet.{replyUnder, sheetReply}
+use Rattle.text_encode.proofs.Heads.{head-room}
 use Rattle.text_expand_said.specs.Expanded.{expanded}
 use Rattle.text_expand_said.proofs.Space.{slices-within, expand-long}
 use Rattle.text_expand.specs.List.{seedListReply}
 use Rattle.text_calls.specs.Texts.{concluded, replyTo, printedFor, callOf}
-use Rattle.text_calls.proofs.Concluding.{few-numbers, head-few}
+use Rattle.text_calls.proofs.Concluding.{few-numbers}
 
-concluded-within : (most : ℕ) (end : Scanned) (r : Reply) → (end ≡ scanned.Whole → Within most r) → Within most (concluded end r)
+concluded-within : (most : ℕ) (end : Scanned) (r : Reply) → Within most r → Within most (concluded end r)
 unfolding concluded
-concluded-within most scanned.Whole r w = w refl
+concluded-within most scanned.Whole r w = w
 concluded-within most (scanned.Refused c) r w = tt
 
 reply-within : (kind : Kind) (s : List ℕ) → Within mostText (replyTo kind s)
-unfolding replyTo sheetReply encoded seedListReply expanded
-reply-within Sheet s = concluded-within mostText (readingOf Sheet s .end) _ (λ w. list-within _ _ _ _ _ (head-few Sheet s w refl) (few-numbers Sheet s .0) (encode-long _ _ _ _ _ lent))
-reply-within SeedList s = concluded-within mostText (readingOf SeedList s .end) _ (λ w. slices-within _ _ _ (few-numbers SeedList s .0) (expand-long _ _ _ _ _ lent))
+unfolding replyTo sheetReply replyUnder encoded seedListReply expanded
+reply-within Sheet s = concluded-within mostText (readingOf Sheet s .end) _ (list-within _ _ _ _ _ (omega (arith, head-room (readingOf Sheet s .entries) (few-numbers Sheet s .0) (few-numbers Sheet s .1))) (few-numbers Sheet s .0) (encode-long _ _ _ _ _ lent))
+reply-within SeedList s = concluded-within mostText (readingOf SeedList s .end) _ (slices-within _ _ _ (few-numbers SeedList s .0) (expand-long _ _ _ _ _ lent))
 
 module _ (kind : Kind) (s out : List ℕ) (h : mostText ≤ length out) (a : Answer) (mid after : List ℕ) (count : ℕ) (c : count ≡ shown a mid .count) (b : after ≡ shown a mid .buffer) where
   pub call-prints : a ≡ callOf kind s out .answer → mid ≡ callOf kind s out .buffer → Prints (printedFor kind s) out count after

@@ -8,10 +8,7 @@
 --     expandReply, expandText, expandCall     those of a seed list
 use mathlib.Core.List.{List}
 use Prim.Native.Nat.{ℕ}
-use Rattle.text_keys.specs.declared.Key.the-variants as key
 use Rattle.text_lines.specs.declared.Entry.{Entry}
-use Rattle.text_split.specs.Text.{split}
-use Rattle.text_head.specs.Before.{linesBefore}
 use Rattle.text_order.specs.declared.Kind.{Kind}
 use Rattle.text_order.specs.declared.Kind.the-variants.{Sheet, SeedList}
 use Rattle.text_ending.specs.declared.Scanned.{Scanned}
@@ -22,9 +19,9 @@ use Rattle.text_replies.specs.Calls.{TextOutcome, called}
 use Rattle.text_encode.specs.Sheet.{sheetReply}
 use Rattle.text_expand.specs.List.{seedListReply}
 
-abbrev pub replyOf : Kind → List ℕ → List Entry → Reply
-replyOf Sheet s es = sheetReply (linesBefore key.Depth (split s)) es
-replyOf SeedList s es = seedListReply es
+abbrev pub replyOf : Kind → List Entry → Reply
+replyOf Sheet es = sheetReply es
+replyOf SeedList es = seedListReply es
 
 -- Checks over the whole follow those of the lines.
 unfoldable pub concluded : Scanned → Reply → Reply
@@ -32,7 +29,7 @@ concluded scanned.Whole reply = reply
 concluded (scanned.Refused r) reply = refused r
 
 unfoldable pub replyTo : Kind → List ℕ → Reply
-replyTo kind s = concluded (readingOf kind s .end) (replyOf kind s (readingOf kind s .entries))
+replyTo kind s = concluded (readingOf kind s .end) (replyOf kind (readingOf kind s .entries))
 
 unfoldable pub printedFor : Kind → List ℕ → List ℕ
 printedFor kind s = printed (replyTo kind s)

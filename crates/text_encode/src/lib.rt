@@ -5,18 +5,35 @@ use text_replies::Answer;
 ghost use mathlib.Core.Path.{_≡_};
 ghost use Prim.Native.Nat.{_≤_};
 ghost use lib.ListN.{length};
-ghost use Rattle.text_keys.specs.declared.Key.the-variants as key;
 ghost use Rattle.text_entries.specs.Flat.{entriesIn};
-ghost use Rattle.text_entries.specs.Said.{numbersFor};
-ghost use Rattle.text_encode.specs.Sheet.{sheetReply};
+ghost use Rattle.text_entries.specs.Said.{masksOf, windowsOf};
+ghost use Rattle.text_write_bytes.specs.Stored.{Stored};
+ghost use Rattle.text_encode.specs.Sheet.{specifiedOf, headOf, replyUnder, sheetReply};
 ghost use Rattle.text_replies.specs.Calls.{called};
 
-// Encodes what the entries of a sheet say, with its lines before depth.
-// An inner function: its callers show that these have at most 65,536 bytes, and that there are at most 64 chain lines and 2,048 slice lines.
-pub fn encode_entries(head: &[u8], entries: &[u64], out: &mut [u8]) -> Answer
-    requires { ⌜ (length (now head) ≤ 65536) × (length (numbersFor key.Chain (entriesIn (now entries))) ≤ 64) × (length (numbersFor key.Slice (entriesIn (now entries))) ≤ 2048) ⌝ }
-    ensures answer { λ r. ⌜ r ≡ called (sheetReply (now (head .entry)) (entriesIn (now (entries .entry)))) (now (out .entry)) .answer ⌝ }
-    ensures buffer { λ _. ⌜ now (out .exit) ≡ called (sheetReply (now (head .entry)) (entriesIn (now (entries .entry)))) (now (out .entry)) .buffer ⌝ }
+// Writes the lines that the list of a sheet repeats.
+fn write_head(entries: &[u64], head: &mut [u8]) -> usize
+    requires { ⌜ (length (masksOf (entriesIn (now entries))) ≤ 64) × (length (windowsOf (entriesIn (now entries))) ≤ 1) ⌝ }
+    ensures { λ r. ⌜ Stored (now (head .entry)) 0 (headOf (entriesIn (now (entries .entry)))) (now (head .exit)) r ⌝ }
+{
+    let mut masks = [0u64; machine_chains::MOST_CHAINS];
+    let mut windows = [0u64; 1];
+    let chains = text_entries::numbers(entries, Key::Chain, Part::First, &mut masks);
+    let limits = text_entries::numbers(entries, Key::Window, Part::First, &mut windows);
+    text_write_head::put_head(
+        head,
+        0,
+        text_entries::settings(entries),
+        &masks[..chains],
+        &windows[..limits],
+    )
+}
+
+// Encodes what the entries of a sheet say, under the lines that its list repeats.
+fn encode_under(head: &[u8], entries: &[u64], out: &mut [u8]) -> Answer
+    requires { ⌜ (length (now head) ≤ 65536) × (length (masksOf (entriesIn (now entries))) ≤ 64) × (length (specifiedOf (entriesIn (now entries))) ≤ 2048) ⌝ }
+    ensures answer { λ r. ⌜ r ≡ called (replyUnder (now (head .entry)) (entriesIn (now (entries .entry)))) (now (out .entry)) .answer ⌝ }
+    ensures buffer { λ _. ⌜ now (out .exit) ≡ called (replyUnder (now (head .entry)) (entriesIn (now (entries .entry)))) (now (out .entry)) .buffer ⌝ }
 {
     let mut masks = [0u64; machine_chains::MOST_CHAINS];
     let mut specified = [0u64; refusal_lengths::MOST_SLICES];
@@ -34,4 +51,16 @@ pub fn encode_entries(head: &[u8], entries: &[u64], out: &mut [u8]) -> Answer
         &bits[..slices],
         out,
     )
+}
+
+// Encodes what the entries of a sheet say.
+// An inner function: its callers show that there are at most 64 chain lines, 1 window line and 2,048 slice lines.
+pub fn encode_entries(entries: &[u64], out: &mut [u8]) -> Answer
+    requires { ⌜ (length (masksOf (entriesIn (now entries))) ≤ 64) × (length (windowsOf (entriesIn (now entries))) ≤ 1) × (length (specifiedOf (entriesIn (now entries))) ≤ 2048) ⌝ }
+    ensures answer { λ r. ⌜ r ≡ called (sheetReply (entriesIn (now (entries .entry)))) (now (out .entry)) .answer ⌝ }
+    ensures buffer { λ _. ⌜ now (out .exit) ≡ called (sheetReply (entriesIn (now (entries .entry)))) (now (out .entry)) .buffer ⌝ }
+{
+    let mut head = [0u8; text_write_head::MOST_HEAD];
+    let size = write_head(entries, &mut head);
+    encode_under(&head[..size], entries, out)
 }

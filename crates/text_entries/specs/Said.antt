@@ -7,6 +7,7 @@
 --     masksOf es          the masks that the chain lines say
 --     numberFor k es      the number for a key that has one line
 --     sliceFor k es       the slice for such a key
+--     windowsOf es        the number that the window line says, or none
 --     limitOf es          the limit of windows
 --     settingsOf es       the settings of the call
 use mathlib.Core.Bool.{Bool, true, false}
@@ -49,9 +50,12 @@ numberFor k es = getD (numbersFor k es) 0 0
 abbrev pub sliceFor : Key → List Entry → TestSlice
 sliceFor k es = record { specified = numberFor k es; bits = getD (bitsFor k es) 0 0 }
 
+abbrev pub windowsOf : List Entry → List ℕ
+windowsOf es = numbersFor key.Window es
+
 -- Without a window line it is 256.
 abbrev pub limitOf : List Entry → ℕ
-limitOf es = getD (numbersFor key.Window es) 0 defaultLimit
+limitOf es = getD (windowsOf es) 0 defaultLimit
 
 abbrev pub settingsOf : List Entry → Settings
 settingsOf es = record { cells = numberFor key.Cells es; taps = numberFor key.Taps es; limit = limitOf es }

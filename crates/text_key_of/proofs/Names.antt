@@ -3,6 +3,7 @@
 --     key-found         so does a line whose key among the rows rs is k
 --     starts-front      a line is the bytes with which it begins, and what follows them
 --     key-starts, starts-key      a line has the key k where it begins with its name
+--     name-front        such a line is the name and what follows it
 --     starts-same       a line with the key j begins with the name of k where j is k, and only there
 -- Assumes nothing.
 use mathlib.Core.Bool.{Bool, true, false}
@@ -54,6 +55,9 @@ module _ (k : Key) (l : List ℕ) where
       let f = key-found rows l k e in
       let r : rank k ≡ f .at = ap rank (sym (f .key)) ∙ rank-at (f .at) (rw rows-count at (f .inside)) in
       ap (λ i. starts (rowAt i .name) l) r ∙ f .begins
+
+  pub name-front : keyOf rows l ≡ Known k → name k ++ drop (length (name k)) l ≡ l
+  name-front e = starts-front (name k) l (key-starts e)
 
   starts-key : starts (name k) l ≡ true → keyOf rows l ≡ Known k
   starts-key s = ap (keyOf rows) (sym (starts-front (name k) l s)) ∙ key-back k (drop (length (name k)) l)

@@ -3,7 +3,7 @@ use text_keys::Key;
 ghost use mathlib.Core.Path.{_≡_};
 ghost use Prim.Native.Nat.{_<_};
 ghost use Rattle.text_key_of.specs.Begins.{starts as startsOf, keyOf};
-ghost use Rattle.text_keys.specs.Keys.{rows, count, rowAt, name as nameOf};
+ghost use Rattle.text_keys.specs.Keys.{rows, count, rowAt};
 
 // The key with which a line begins.
 pub enum Named {
@@ -37,13 +37,6 @@ fn begins(i: usize, line: &[u8]) -> bool
     let name = spelling.1;
     let size = spelling.2;
     starts(&name[..size], line)
-}
-
-// Whether a line begins with the name of a key.
-pub fn has_key(key: Key, line: &[u8]) -> bool
-    ensures { λ r. ⌜ r ≡ startsOf (nameOf key) (now (line .entry)) ⌝ }
-{
-    begins(text_keys::rank(key), line)
 }
 
 // The key with which a line begins.

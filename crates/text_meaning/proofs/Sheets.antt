@@ -39,12 +39,11 @@ use Rattle.encoder_cubes.proofs.Cubes.{cubes-means}
 use Rattle.text_keys.specs.Bytes.{feed}
 use Rattle.text_keys.specs.Keys.{name}
 use Rattle.text_keys.specs.declared.Key.the-variants as key
-use Rattle.text_split.specs.Text.{split}
-use Rattle.text_head.specs.Before.{linesBefore}
+use Rattle.text_spelling.proofs.Head.{head-spelt}
 use Rattle.text_order.specs.declared.Kind.the-variants.{Sheet}
 use Rattle.text_entries.specs.Said.{masksOf, numberFor, settingsOf}
 use Rattle.text_encode_said.specs.Encoded.{listReply, encoded}
-use Rattle.text_encode.specs.Sheet.{specifiedOf, bitsOf, sheetReply}
+use Rattle.text_encode.specs.Sheet.{specifiedOf, bitsOf, headOf, replyUnder, sheetReply}
 use Rattle.text_replies.specs.Replies.{Reply, text, refused, lent}
 use Rattle.text_calls.specs.Texts.{concluded, replyTo, encodeReply}
 use Rattle.text_write_characters.specs.Characters.{characters, sliceLine}
@@ -81,7 +80,7 @@ module _ (s : List ℕ) where
   g = settingsOf (sheetOf s)
 
   abbrev head : List ℕ
-  head = linesBefore key.Depth (split s)
+  head = headOf (sheetOf s)
 
   abbrev masks : List ℕ
   masks = masksOf (sheetOf s)
@@ -103,7 +102,7 @@ module _ (s : List ℕ) where
 
   module _ (read : ReadThrough Sheet s) where
     reply-listed : encodeReply s ≡ listed (o .answer)
-    unfolding replyTo concluded sheetReply encoded
+    unfolding replyTo concluded sheetReply replyUnder encoded
     reply-listed = rw (read, concluded)
 
     -- A refused encoding refuses the sheet.
@@ -145,12 +144,13 @@ module _ (s : List ℕ) where
               let same : q .0 ≡ k = ap (λ (r : Refusal). r .value) (refused-is (refusalOf (cause.NoCutting (q .0))) (refusalOf (cause.NoCutting k)) (sym (refused-reply (cause.NoCutting (q .0)) (q .1)) ∙ e)) in
               q .1 ∙ ap (λ j. written.Refused (cause.NoCutting j)) same
 
+      -- The list has the head that is written for the sheet, which is the sheet's own.
       repeats : (list : List ℕ) (n : ℕ) → Quoted s stop list n → Repeats s list
       unfolding listText sliceLine
       repeats list n q =
           let stopped-at = characters (length masks) stop ++ (feed ∷ []) in
           let others = numberLine 10 (name key.Slices) (length ps) ++ numberLines 16 (name key.Seed) (q .seeds) in
-          (stopped-at ++ others, q .printed ∙ ap (λ x. head ++ x) (append-assoc (name key.Stop) stopped-at others))
+          (stopped-at ++ others, q .printed ∙ ap (λ x. head ++ x) (append-assoc (name key.Stop) stopped-at others) ∙ ap (λ h. h ++ (name key.Stop ++ (stopped-at ++ others))) (sym (head-spelt s read)))
 
       stopped-means : stopFor (length masks) (setOf s) ≡ some stop → StoppedSheet s stop (encodeReply s)
       stopped-means its = record {

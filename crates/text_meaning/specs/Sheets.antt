@@ -38,7 +38,7 @@ use Rattle.text_entries.specs.Said.{masksOf, numberFor, settingsOf}
 use Rattle.text_reading.specs.Reading.{readingOf}
 use Rattle.text_encode.specs.Sheet.{specifiedOf, bitsOf}
 use Rattle.text_replies.specs.Replies.{Reply, text, refused}
-use Rattle.text_head.specs.Before.{linesBefore}
+use Rattle.text_readback.specs.Before.{linesBefore}
 use Rattle.text_roundtrip.specs.RoundTrip.{sheetOf, setOf, Quoted, GivesBack}
 
 -- The lines before it are accepted, one entry each; after the last line, one more.

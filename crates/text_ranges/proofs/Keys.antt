@@ -69,7 +69,7 @@ module _ (k : Key) (e : Entry) where
       (λ h. absurd (refused-said Form e (sym (keyed-long chains k l h) ∙ q)))
       (lt-or-le (length l) (longest k))
 
-formed-key : (chains : ℕ) (l : List ℕ) (e : Entry) → formed chains l ≡ Said e → keyOf rows l ≡ Known (e .key)
+pub formed-key : (chains : ℕ) (l : List ℕ) (e : Entry) → formed chains l ≡ Said e → keyOf rows l ≡ Known (e .key)
 formed-key chains l e q = go (keyOf rows l) refl
   where
     go : (n : Named) → keyOf rows l ≡ n → keyOf rows l ≡ Known (e .key)

@@ -1,4 +1,5 @@
 -- The lines of a sheet before depth are read alike in front of a seed list's own lines.
+--     before-key, before-line     the lines before a key, with a line of the key in front and with another one
 --     plain t               no line of the text t has a line feed
 --     split-plain           so it is with a text that was split
 --     said-alike            a line before depth says the same in both kinds of text
@@ -32,8 +33,6 @@ use Rattle.text_lines.specs.declared.Line.the-variants as lines
 use Rattle.text_entries.specs.Said.{picked, masksOf}
 use Rattle.text_entries.specs.declared.Part.{Part}
 use Rattle.text_split.specs.Text.{Text, line, rest, joined, split}
-use Rattle.text_head.specs.Before.{linesBefore}
-use Rattle.text_head.proofs.Fronts.{before-key, before-line}
 use Rattle.text_order.specs.Order.{after, mayStand, among, inOrder}
 use Rattle.text_order.specs.declared.Kind.the-variants.{Sheet, SeedList}
 use Rattle.text_order.proofs.Standing.{missing-none, stand-after, among-one}
@@ -47,9 +46,19 @@ use Rattle.text_ranges.proofs.Keys.{said-formed, said-starts}
 use Rattle.text_ending.specs.declared.Scanned.the-variants.{Whole}
 use Rattle.text_ending.proofs.Ends.{end-early, refused-whole}
 use Rattle.text_reading.specs.Reading.{told, onward, reading}
+use Rattle.text_readback.specs.Before.{linesBefore}
 use Rattle.text_readback.proofs.Splitting.{isFeed, split-feed}
 use Rattle.text_readback.proofs.Lines.{Reads}
 use Rattle.text_readback.proofs.Chains.{had, isChain, Held, accepted-steps, depth-counted}
+
+module _ (k : Key) (l : List ℕ) (t : Text) where
+  pub before-key : starts (name k) l ≡ true → linesBefore k (line l t) ≡ []
+  unfolding linesBefore
+  before-key s = rw (s, linesBefore)
+
+  pub before-line : starts (name k) l ≡ false → linesBefore k (line l t) ≡ l ++ (feed ∷ linesBefore k t)
+  unfolding linesBefore
+  before-line s = rw (s, linesBefore)
 
 -- ---- lines have no line feed
 

@@ -25,7 +25,6 @@ use Rattle.text_lines.specs.declared.Entry.{Entry}
 use Rattle.text_entries.specs.Said.{masksOf}
 use Rattle.text_entries.specs.declared.Part.the-variants.{First}
 use Rattle.text_split.specs.Text.{split}
-use Rattle.text_head.specs.Before.{linesBefore}
 use Rattle.text_order.specs.Order.{after, missing, mayStand, among, inOrder, mayEnd}
 use Rattle.text_order.specs.declared.Kind.the-variants.{Sheet, SeedList}
 use Rattle.text_order.proofs.Heads.{head}
@@ -39,6 +38,7 @@ use Rattle.text_ending.specs.declared.Scanned.the-variants.{Whole}
 use Rattle.text_write_numbers.specs.Lines.{numberLine, numberLines}
 use Rattle.text_write_characters.specs.Characters.{sliceLine}
 use Rattle.text_write_list.specs.SeedList.{listText}
+use Rattle.text_readback.specs.Before.{linesBefore}
 use Rattle.text_readback.specs.Written.{value, written, ownEntries, Printable}
 use Rattle.text_readback.proofs.Lines.{Reads, line-reads}
 use Rattle.text_readback.proofs.Runs.{placeAt, accepted-at, seeds-read}

@@ -1,2 +1,3 @@
--- What a seed list says.
+-- The lines of a text before a key, and what those of a seed list say.
+pub mod Before
 pub mod Written

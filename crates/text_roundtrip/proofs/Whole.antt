@@ -26,8 +26,7 @@ use Rattle.encoder_meaning.specs.declared.Encoded.{Encoded}
 use Rattle.encoder_meaning.specs.declared.Encoded.the-variants as encodings
 use Rattle.text_reading.specs.Reading.{readingOf}
 use Rattle.text_entries.specs.Said.{masksOf, numberFor, settingsOf}
-use Rattle.text_split.specs.Text.{split}
-use Rattle.text_head.specs.Before.{linesBefore}
+use Rattle.text_spelling.proofs.Head.{head-spelt}
 use Rattle.text_order.specs.declared.Kind.the-variants as kinds
 use Rattle.text_ending.specs.declared.Scanned.{Scanned}
 use Rattle.text_ending.specs.declared.Scanned.the-variants as scanned
@@ -39,7 +38,7 @@ use Rattle.text_readback.proofs.Said.{settings-back, masks-back, seeds-back, sl
 use Rattle.text_replies.specs.Replies.{Reply, text, refused, lent}
 use Rattle.text_encode_said.specs.Encoded.{listReply, encoded}
 use Rattle.text_expand_said.specs.Expanded.{slicesReply, expanded}
-use Rattle.text_encode.specs.Sheet.{specifiedOf, bitsOf, sheetReply}
+use Rattle.text_encode.specs.Sheet.{specifiedOf, bitsOf, headOf, replyUnder, sheetReply}
 use Rattle.text_expand.specs.List.{seedListReply}
 use Rattle.text_calls.specs.Texts.{concluded, replyTo, encodeReply, expandReply}
 use Rattle.text_encode_said.proofs.Space.{encode-long}
@@ -51,9 +50,9 @@ use Rattle.text_roundtrip.proofs.Accepted.{cubes-accepted}
 module _ (s : List ℕ) (read : readingOf kinds.Sheet s .end ≡ scanned.Whole) (stop : TestSlice) (slices : ℕ) (seeds : List ℕ) where
   -- The list is expanded as what the sheet says before depth, and what was written.
   list-expands : Printable (length (masksOf (sheetOf s))) stop slices seeds
-      → expandReply (listText (linesBefore key.Depth (split s)) (length (masksOf (sheetOf s))) stop slices seeds) ≡ expanded (settingsOf (sheetOf s)) (masksOf (sheetOf s)) stop slices seeds
+      → expandReply (listText (headOf (sheetOf s)) (length (masksOf (sheetOf s))) stop slices seeds) ≡ expanded (settingsOf (sheetOf s)) (masksOf (sheetOf s)) stop slices seeds
   unfolding replyTo concluded seedListReply
-  list-expands p = rw (read-back s read stop slices seeds p, settings-back s read stop slices seeds, masks-back s read stop slices seeds, seeds-back s read stop slices seeds, slices-back s read stop slices seeds, stop-back s read stop slices seeds)
+  list-expands p = rw (← (head-spelt s read), read-back s read stop slices seeds p, settings-back s read stop slices seeds, masks-back s read stop slices seeds, seeds-back s read stop slices seeds, slices-back s read stop slices seeds, stop-back s read stop slices seeds)
 
 -- Slices that are delivered stand in the lent buffer.
 delivered-reply : (chains : ℕ) (vs : List ℕ) (o : Outcome) → o ≡ fill vs lent → length vs ≤ 2048 → slicesReply chains (o .buffer) (o .answer) ≡ text (sliceLines chains vs) (length vs)
@@ -91,7 +90,7 @@ module _ (s : List ℕ) where
   g = settingsOf (sheetOf s)
 
   abbrev head : List ℕ
-  head = linesBefore key.Depth (split s)
+  head = headOf (sheetOf s)
 
   abbrev masks : List ℕ
   masks = masksOf (sheetOf s)
@@ -141,9 +140,9 @@ module _ (s : List ℕ) where
       list-quoted (encodings.Refused c) q e = absurd (refused-text _ list n e)
 
       pub quoted : encodeReply s ≡ text list n → Quoted s stop list n
-      unfolding replyTo sheetReply encoded
+      unfolding replyTo sheetReply replyUnder encoded
       quoted e = list-quoted (o .answer) refl (concluded-text (readingOf kinds.Sheet s .end) _ list n e)
 
     pub round-trip : encodeReply s ≡ text list n → GivesBack s list
-    unfolding replyTo sheetReply encoded
+    unfolding replyTo sheetReply replyUnder encoded
     round-trip e = given-back (concluded-whole (readingOf kinds.Sheet s .end) _ list n e) (o .answer) refl (concluded-text (readingOf kinds.Sheet s .end) _ list n e)

@@ -1,7 +1,7 @@
 -- From a sheet to its seed list and back to slices (document 01, "Sheet and seed list"; demand 2).
 --     sheetOf s           the entries of the sheet s
 --     setOf s             its test slices
---     Quoted s stop list n     the list has the lines of the sheet s before depth, its stop slice and n seeds, than which no covering list is shorter
+--     Quoted s stop list n     the list is that of the sheet s with its stop slice and n seeds, than which no covering list is shorter
 --     GivesBack s list    expanding the list is accepted with as many slices as the sheet s has, and slice i agrees with slice line i
 use mathlib.Core.Path.{_≡_}
 use mathlib.Core.Bool.{true}
@@ -16,12 +16,9 @@ use Rattle.stop_steps.specs.Steps.{stopFor}
 use Rattle.theory_covering.specs.Rules.{rules}
 use Rattle.encoder_meaning.specs.Meaning.{Shortest}
 use Rattle.text_reading.specs.Reading.{readingOf}
-use Rattle.text_keys.specs.declared.Key.the-variants as key
-use Rattle.text_split.specs.Text.{split}
-use Rattle.text_head.specs.Before.{linesBefore}
 use Rattle.text_lines.specs.declared.Entry.{Entry}
 use Rattle.text_entries.specs.Said.{masksOf, settingsOf}
-use Rattle.text_encode.specs.Sheet.{specifiedOf, bitsOf}
+use Rattle.text_encode.specs.Sheet.{specifiedOf, bitsOf, headOf}
 use Rattle.text_order.specs.declared.Kind.the-variants as kinds
 use Rattle.text_write_slices.specs.Slices.{sliceLines}
 use Rattle.text_write_list.specs.SeedList.{listText}
@@ -36,7 +33,7 @@ setOf s = paired (specifiedOf (sheetOf s)) (bitsOf (sheetOf s))
 
 pub record Quoted (s : List ℕ) (stop : TestSlice) (list : List ℕ) (n : ℕ) : Type 0 where
   pub seeds : List ℕ
-  pub printed : list ≡ listText (linesBefore key.Depth (split s)) (length (masksOf (sheetOf s))) stop (length (specifiedOf (sheetOf s))) seeds
+  pub printed : list ≡ listText (headOf (sheetOf s)) (length (masksOf (sheetOf s))) stop (length (specifiedOf (sheetOf s))) seeds
   pub count : length seeds ≡ n
   pub stopped : stopFor (length (masksOf (sheetOf s))) (setOf s) ≡ some stop
   pub shortest : Shortest (machine (settingsOf (sheetOf s)) (masksOf (sheetOf s))) (rules (settingsOf (sheetOf s)) stop) (setOf s) seeds

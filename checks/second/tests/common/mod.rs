@@ -1,7 +1,13 @@
-// Holds a small seeded generator and the making of sets for the tests.
+// Holds a small seeded generator, the making of sets and document 01's window limit for the
+// tests.
 #![allow(dead_code)]
 
+pub mod cores;
+
 use second::{slice_of, Refused};
+
+/// The window limit of document 01.
+pub const LIMIT: u64 = 256;
 
 /// A generator with 64 bits of state (splitmix64).
 pub struct Random(pub u64);

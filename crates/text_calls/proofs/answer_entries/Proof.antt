@@ -4,22 +4,17 @@ use Rattle.text_calls.proofs.answer_entries.Statement.{statement}
 use Rattle.text_calls.proofs.answer_entries.Tie as tie
 
 returns : tie.Need-returns
-returns c = let r = c .before .before in rw (r .before .before .enum-told .given .1) (r .answer-sheet .ensures)
+returns c = let r = c .before .before in rw (r .before .before .enum-told .given .1) (r .encode-entries .ensures)
 
 returns-2 : tie.Need-returns-2
 returns-2 c = let r = c .before .before in rw (r .before .before .enum-told2 .given .1) (r .expand-entries .ensures)
-
-answer-sheet-requires : tie.Need-answer-sheet-requires
-answer-sheet-requires c κs =
-    let t = c .before .before .before .before .before .before in
-    (t .pre .0 (c .before .enum-told .given .1), t .pre .1 .0, t .pre .1 .1)
 
 pub answer-entries-spec : {M : Type 1} → statement M
 answer-entries-spec =
     tie.close
     (tie.spec
     (λ c. search needs)
-    answer-sheet-requires
+    (λ c κs. search needs)
     (λ c. search needs)
     (λ c κs. search needs)
     (λ c. search needs)

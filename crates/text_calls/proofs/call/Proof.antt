@@ -2,14 +2,14 @@
 use borrow.Author.Needs.{needs}
 use Rattle.text_calls.proofs.call.Statement.{statement}
 use Rattle.text_calls.proofs.call.Tie as tie
-use mathlib.Core.Path.{sym, _∙_}
+use mathlib.Core.Path.{sym}
 use Prim.Native.Nat.{ℕ}
 use lib.ListN.{length-replicate}
 use Rattle.text_keys.specs.Keys.{count}
-use Rattle.text_calls.proofs.Concluding.{kept-entries, few-numbers, head-few, call-whole, call-refused}
+use Rattle.text_calls.proofs.Concluding.{kept-entries, few-numbers, call-whole, call-refused}
 
 answer-entries-requires : tie.Need-answer-entries-requires
-answer-entries-requires c κs = let s = c .before .before .before .before .before in rw (kept-entries _ _ _ (s .scan .ensures .1)) (head-few _ _ (sym (s .scan .ensures .0) ∙ c .before .before .enum-told .given .1), few-numbers _ _)
+answer-entries-requires c κs = let s = c .before .before .before .before .before in rw (kept-entries _ _ _ (s .scan .ensures .1)) (few-numbers _ _)
 
 returns : tie.Need-returns
 returns c =

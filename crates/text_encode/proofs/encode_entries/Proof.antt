@@ -1,63 +1,41 @@
--- `text_encode::encode_entries` meets its contract. What is encoded is what the sheet says. Assumes nothing.
+-- `text_encode::encode_entries` meets its contract. Assumes nothing.
 use borrow.Author.Needs.{needs}
 use Rattle.text_encode.proofs.encode_entries.Statement.{statement}
 use Rattle.text_encode.proofs.encode_entries.Tie as tie
-use mathlib.Core.Path.{sym, _∙_}
+use mathlib.Core.Path.{sym}
 use Prim.Native.Nat.{ℕ}
 use native.Mathlib.Omega.{arith}
-use lib.ListN.{length-replicate}
-use Rattle.text_keys.specs.declared.Key.the-variants as key
+use lib.ListN.{length-take, length-replicate}
 use Rattle.text_entries.specs.Flat.{entriesIn}
-use Rattle.text_entries.specs.Said.{masksOf}
-use Rattle.text_entries.proofs.Filling.{few-front, few-long, parts-long}
-use Rattle.text_encode.specs.Sheet.{specifiedOf, bitsOf, sheetReply}
+use Rattle.text_encode.specs.Sheet.{sheetReply}
+use Rattle.text_encode.proofs.Heads.{head-room, head-front, head-long}
 
-slice-aggregate-encode-said : tie.Need-slice-aggregate-encode-said
-slice-aggregate-encode-said c =
-    let m = c .before .before .before .before .before .before .before .before .before .before in
-    let t = m .before .before .before .before .before in
-    few-long 64 (masksOf (entriesIn (t .args .entries .now))) (t .pre .1) _ (m .numbers .ensures .0) _ (m .numbers .ensures .1)
+array-share-prefix-head : tie.Need-array-share-prefix-head
+array-share-prefix-head c =
+    let h = c .before in
+    let t = h .before .before .before .before in
+    omega (arith, head-long (entriesIn (t .args .entries .now)) (t .pre .0) (t .pre .1) _ _ (h .write-head .ensures), length-take (h .write-head .result) (h .write-head .last .1 .0))
 
-slice-aggregate-encode-said-2 : tie.Need-slice-aggregate-encode-said-2
-slice-aggregate-encode-said-2 c =
-    let s = c .before .before .before .before .before .before .before .before in
-    let t = s .before .before .before .before .before .before .before .before in
-    few-long 2048 (specifiedOf (entriesIn (t .args .entries .now))) (t .pre .2) _ (s .numbers2 .ensures .0) _ (s .numbers2 .ensures .1)
+slice-aggregate-encode-under : tie.Need-slice-aggregate-encode-under
+slice-aggregate-encode-under c =
+    let h = c .before .before in
+    let t = h .before .before .before .before in
+    head-long (entriesIn (t .args .entries .now)) (t .pre .0) (t .pre .1) _ _ (h .write-head .ensures)
 
-slice-aggregate-encode-said-3 : tie.Need-slice-aggregate-encode-said-3
-slice-aggregate-encode-said-3 c =
-    let b = c .before .before .before .before .before .before in
-    let s = b .before .before .before in
-    let t = s .before .before .before .before .before .before .before .before in
+encode-under-requires : tie.Need-encode-under-requires
+encode-under-requires c κs =
+    let h = c .before .before .before in
+    let t = h .before .before .before .before in
     let es = entriesIn (t .args .entries .now) in
-    let p = parts-long key.Slice es in
-    few-long 2048 (bitsOf es) (omega (arith, p, t .pre .2)) _ (s .numbers2 .ensures .0 ∙ p) _ (b .numbers3 .ensures .1)
-
-encode-said-requires : tie.Need-encode-said-requires
-encode-said-requires c κs =
-    let m = c .before .before .before .before .before .before .before .before .before .before .before .before .before in
-    let t = m .before .before .before .before .before in
-    rw (few-front 64 (masksOf (entriesIn (t .args .entries .now))) (t .pre .1) _ (m .numbers .ensures .0) _ (m .numbers .ensures .1)) (t .pre .0, t .pre .1)
+    rw (head-front es (t .pre .0) (t .pre .1) _ _ (h .write-head .ensures)) (omega (arith, head-room es (t .pre .0) (t .pre .1)), t .pre .0, t .pre .2)
 
 returns : tie.Need-returns
 unfolding sheetReply
 returns c =
-    let r = c .before .before in
-    let g = r .before .before .before .before .before in
-    let b = g .before .before .before in
-    let s = b .before .before .before in
-    let m = s .before .before .before in
-    let t = m .before .before .before .before .before in
-    let es = entriesIn (t .args .entries .now) in
-    let p = parts-long key.Slice es in
-    rw (
-      ← (g .settings .ensures),
-      ← (g .before .number .ensures),
-      ← (few-front 64 (masksOf es) (t .pre .1) _ (m .numbers .ensures .0) _ (m .numbers .ensures .1)),
-      ← (few-front 2048 (specifiedOf es) (t .pre .2) _ (s .numbers2 .ensures .0) _ (s .numbers2 .ensures .1)),
-      ← (few-front 2048 (bitsOf es) (omega (arith, p, t .pre .2)) _ (s .numbers2 .ensures .0 ∙ p) _ (b .numbers3 .ensures .1)),
-    )
-    (r .encode-said .ensures)
+    let u = c .before .before in
+    let h = u .before .before .before .before in
+    let t = h .before .before .before .before in
+    rw (← (head-front (entriesIn (t .args .entries .now)) (t .pre .0) (t .pre .1) _ _ (h .write-head .ensures))) (u .encode-under .ensures)
 
 pub encode-entries-spec : {M : Type 1} → statement M
 encode-entries-spec =
@@ -65,18 +43,8 @@ encode-entries-spec =
     (tie.spec
     (λ c. sym (length-replicate {A = ℕ} _ 0))
     (λ c κs. search needs)
-    (λ c. sym (length-replicate {A = ℕ} _ 0))
-    (λ c κs. search needs)
-    (λ c. sym (length-replicate {A = ℕ} _ 0))
-    (λ c κs. search needs)
-    (λ c κs. search needs)
-    (λ c κs. search needs)
-    (λ c. search needs)
-    slice-aggregate-encode-said
-    (λ c. search needs)
-    slice-aggregate-encode-said-2
-    (λ c. search needs)
-    slice-aggregate-encode-said-3
-    encode-said-requires
+    array-share-prefix-head
+    slice-aggregate-encode-under
+    encode-under-requires
     (λ c. search needs)
     returns)

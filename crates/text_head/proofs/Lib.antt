@@ -1,2 +1,0 @@
--- The laws of the lines before a key, and the proofs of the functions.
-pub mod Fronts

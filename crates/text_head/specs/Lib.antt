@@ -1,2 +1,0 @@
--- The lines of a text before a key.
-pub mod Before
