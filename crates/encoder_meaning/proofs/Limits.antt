@@ -19,7 +19,7 @@ use Rattle.refusal_causes.specs.declared.Cause.{Cause}
 use Rattle.refusal_causes.specs.declared.Written.the-variants.{Count, Refused}
 use Rattle.refusal_causes.specs.Outcome.{Outcome, refuse}
 use Rattle.refusal_causes.proofs.Outcome.{fill-cases}
-use Rattle.refusal_lengths.specs.Lengths.{badLimit}
+use Rattle.refusal_lengths.specs.Lengths.{mostLimit, badLimit}
 use Rattle.machine_settings.specs.declared.Settings.{Settings}
 use Rattle.machine_settings.specs.Machine.{Machine, machine}
 use Rattle.machine_register.proofs.Steps.{step-below}
@@ -113,9 +113,9 @@ module _ (M : Machine) (small large : Rules) (set : List TestSlice) (r : Raised 
 pub same-answer : {A : Type 0} (count : ℕ → A) (refused : Cause → A) (r s : A) → r ≡ s → NoWorse count refused r s
 same-answer count refused r s e = rw e (record { needs = λ m h. (m, h, omega arith); accepted = λ m h. (m, h, omega arith); uncut = λ h u. (h, u, omega arith) })
 
-limit-fine : (limit : ℕ) → 1 ≤ limit → limit ≤ 256 → badLimit limit ≡ false
+limit-fine : (limit : ℕ) → 1 ≤ limit → limit ≤ mostLimit → badLimit limit ≡ false
 unfolding badLimit
-limit-fine limit l m = rw (within-holds 1 256 limit l m)
+limit-fine limit l m = rw (within-holds 1 mostLimit limit l m)
 
 module _ (g : Settings) (limit : ℕ) (h : Larger g limit) (masks : List ℕ) where
   pub larger-faults : (l s t : Bool) → callFaults (withLimit limit g) masks l s t ≡ callFaults g masks l s t

@@ -1,6 +1,6 @@
 -- What the checks of a call with settings leave.
 --     limit-bad, limit-good     cause 3 where the limit is refused; where it is not, the lengths of the call decide
---     CallFormed g masks l s t  none of causes 1 to 5 holds; so there are at most 64 chains, and windows have at most 256 slices
+--     CallFormed g masks l s t  none of causes 1 to 5 holds; so there are at most 64 chains, and the limit is at most the greatest
 --     call-formed, formed-call  the checks leave it, and only then; l, s and t are what the call says of its lengths, slices and stop slice
 --     window-formed, set-formed, cubes-formed, list-formed     the same of each kind of call
 -- Assumes nothing.
@@ -16,7 +16,7 @@ use Rattle.machine_chains.specs.Chains.{badChains}
 use Rattle.machine_chains.proofs.Causes.{chains-within}
 use Rattle.machine_slices.specs.declared.TestSlice.{TestSlice}
 use Rattle.machine_slices.specs.Slices.{badSlices, badStop}
-use Rattle.refusal_lengths.specs.Lengths.{badLimit, badWindow, badSet, badCubes, badList}
+use Rattle.refusal_lengths.specs.Lengths.{mostLimit, badLimit, badWindow, badSet, badCubes, badList}
 use Rattle.refusal_lengths.proofs.Lengths.{limit-within}
 use Rattle.refusal_order.specs.Order.{judged}
 use Rattle.refusal_order.proofs.Order.{well-formed, formed-well}
@@ -41,7 +41,7 @@ pub record CallFormed (g : Settings) (masks : List ℕ) (l s t : Bool) : Type 0 
   pub chains : badChains (g .cells) masks ≡ false
   pub few : length masks ≤ 64
   pub limit : badLimit (g .limit) ≡ false
-  pub most : g .limit ≤ 256
+  pub most : g .limit ≤ mostLimit
   pub lengths : l ≡ false
   pub slices : s ≡ false
   pub stop : t ≡ false

@@ -11,7 +11,7 @@ use lib.Dec.{ltb, eqb}
 use borrow.Author.Tests.{ltb-false, not-false}
 use Rattle.words_bounded.specs.Bounded.{within}
 use Rattle.words_bounded.proofs.Tests.{neither, within-yes}
-use Rattle.refusal_lengths.specs.Lengths.{badLimit, badWindow, badSet, badCubes, badList}
+use Rattle.refusal_lengths.specs.Lengths.{mostLimit, badLimit, badWindow, badSet, badCubes, badList}
 
 module _ (depth n : ℕ) where
   pub cubes-depth : within 1 256 depth ≡ false → badCubes depth n ≡ true
@@ -30,9 +30,9 @@ module _ (depth n : ℕ) where
   unfolding badCubes
   cubes-rest w b = rw (w, b)
 
-pub limit-within : (limit : ℕ) → badLimit limit ≡ false → (1 ≤ limit) × (limit ≤ 256)
+pub limit-within : (limit : ℕ) → badLimit limit ≡ false → (1 ≤ limit) × (limit ≤ mostLimit)
 unfolding badLimit
-limit-within limit b = within-yes 1 256 limit (not-false (within 1 256 limit) b)
+limit-within limit b = within-yes 1 mostLimit limit (not-false (within 1 mostLimit limit) b)
 
 pub window-within : (limit n : ℕ) → badWindow limit n ≡ false → (1 ≤ n) × (n ≤ limit)
 unfolding badWindow

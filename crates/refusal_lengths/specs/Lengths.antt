@@ -1,4 +1,4 @@
--- Lengths (document 01, cause 3 of its refusal sheet).
+-- Lengths (document 01, cause 3 of its refusal sheet; document 02, R-3).
 --     mostSlices            the most slices of a set, and the most seeds of a list
 --     mostDepth             the greatest depth of a cube
 --     mostLimit             the greatest limit of a window
@@ -25,7 +25,7 @@ mostLimit = 256
 unfoldable pub badLimit : ℕ → Bool
 badLimit limit = not (within 1 mostLimit limit)
 
--- Window length not 1 to the limit, 256 in the base.
+-- Window length not 1 to the limit.
 unfoldable pub badWindow : ℕ → ℕ → Bool
 badWindow limit n = not (within 1 limit n)
 

@@ -1,4 +1,4 @@
-// Lengths (document 01, cause 3 of its refusal sheet).
+// Lengths (document 01, cause 3 of its refusal sheet; document 02, R-3).
 ghost use mathlib.Core.Path.{_≡_};
 ghost use Rattle.refusal_lengths.specs.Lengths.{badLimit, badWindow, badSet, badCubes, badList};
 
