@@ -176,7 +176,8 @@ seeds_cubes_answer seeds_encode_cubes(seeds_settings settings, const uint64_t *m
                                       const uint64_t *bits, size_t bits_len,
                                       uint64_t *out, size_t out_len);
 
-/* The text of a sheet to its seed list, and of a seed list to its slice lines. */
+/* The text of a sheet to its seed list, and of a seed list to its slice lines. The limit of a window is the number of the
+ * text's line window=, or 256 where it has no such line. */
 seeds_text_answer seeds_encode_text(const uint8_t *sheet, size_t sheet_len, uint8_t *out, size_t out_len);
 seeds_text_answer seeds_expand_text(const uint8_t *list, size_t list_len, uint8_t *out, size_t out_len);
 
