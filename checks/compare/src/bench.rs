@@ -1,6 +1,6 @@
 // Document 01's bench examples, starred and not: the calls that they make, and the second program's answers.
 
-use crate::call::{refused, Call};
+use crate::call::{refused, Call, DEFAULT_LIMIT};
 use crate::report::{same, Outcome};
 use second::Refused;
 
@@ -20,6 +20,7 @@ pub fn of_r(stop: &str, slices: &[&str]) -> Call {
     Call {
         cells: R_CELLS,
         taps: R_TAPS,
+        limit: DEFAULT_LIMIT,
         masks: R_MASKS.to_vec(),
         stop: second::slice_of(stop.as_bytes(), 2).expect("a stop slice"),
         depth: 1,

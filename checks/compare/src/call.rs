@@ -2,11 +2,16 @@
 
 use second::{BruteSet, Refused};
 
+/// The limit of a window where none is given: document 01's 256.
+pub const DEFAULT_LIMIT: usize = second::DEFAULT_LIMIT as usize;
+
 /// What a call hands in; each kind of call takes the parts that it has.
 #[derive(Clone, Debug)]
 pub struct Call {
     pub cells: usize,
     pub taps: u64,
+    /// Most slices of a window.
+    pub limit: usize,
     pub masks: Vec<u64>,
     pub stop: (u64, u64),
     pub depth: usize,
@@ -28,6 +33,7 @@ impl Call {
         second::window_seed(
             cells,
             self.taps,
+            self.limit as u64,
             &self.masks,
             positions,
             values,
@@ -41,6 +47,7 @@ impl Call {
         second::encode_set(
             cells,
             self.taps,
+            self.limit as u64,
             &self.masks,
             positions,
             values,
@@ -55,6 +62,7 @@ impl Call {
         second::encode_cubes(
             cells,
             self.taps,
+            self.limit as u64,
             &self.masks,
             depth,
             &self.specified,
@@ -73,6 +81,7 @@ impl Call {
         second::expand(
             cells,
             self.taps,
+            self.limit as u64,
             &self.masks,
             positions,
             values,
@@ -88,6 +97,7 @@ impl Call {
         second::brute_window(
             cells,
             self.taps,
+            self.limit as u64,
             &self.masks,
             positions,
             values,
@@ -102,6 +112,7 @@ impl Call {
         second::brute_set(
             cells,
             self.taps,
+            self.limit as u64,
             &self.masks,
             positions,
             values,

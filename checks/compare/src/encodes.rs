@@ -2,7 +2,7 @@
 // Small sets are compared with brute force too, and each accepted list is expanded again.
 
 use crate::bench;
-use crate::call::{refused, Call};
+use crate::call::{refused, Call, DEFAULT_LIMIT};
 use crate::inputs::{damage_set, fill, lawful, shaped, thin, turn};
 use crate::lent::lend;
 use crate::library::{Answer, Like};
@@ -53,8 +53,11 @@ fn note_windows(list: &Call, seen: &mut Seen) {
     let mut start = 0;
     for &seed in &list.seeds {
         let length = alone(list, seed).unwrap_or(0);
-        if length == 1 || length == second::LONGEST_WINDOW {
+        if length == 1 || length == DEFAULT_LIMIT {
             seen.note(&format!("a window of {length}"));
+        }
+        if length == list.limit {
+            seen.note("a window as long as the limit");
         }
         if list.depth > 1 && start % list.depth + length > list.depth {
             seen.note("a window across cubes");
@@ -63,6 +66,9 @@ fn note_windows(list: &Call, seen: &mut Seen) {
     }
     if list.seeds.len() > 1 {
         seen.note("several seeds");
+    }
+    if list.depth > list.limit {
+        seen.note("a depth above the limit");
     }
 }
 
@@ -253,7 +259,7 @@ pub fn small(random: &mut Random, most_cells: usize) -> Call {
 }
 
 /// A set with space, by all states and all cuttings: the fewest seeds, and those of the longest windows; or refusal 8 with the longest start.
-fn brute(call: &Call) -> Result<Known, String> {
+pub fn brute(call: &Call) -> Result<Known, String> {
     let found = call.brute_set()?;
     Ok(match found.fewest {
         Some(fewest) if fewest == found.seeds.len() => Ok(found.seeds),

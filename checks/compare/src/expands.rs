@@ -25,7 +25,7 @@ fn note(call: &Call, told: &Result<usize, Refused>, seen: &mut Seen) {
 }
 
 /// One call with a lent buffer of `room` entries.
-fn compare(random: &mut Random, call: &Call, room: usize, seen: &mut Seen) -> Outcome {
+pub fn compare(random: &mut Random, call: &Call, room: usize, seen: &mut Seen) -> Outcome {
     let ours = |out: &mut [u64]| call.expanded(out);
     let theirs = |out: &mut [u64]| call.expand(&call.seeds, out);
     let (told, _) = lend(random, room, ours, theirs)

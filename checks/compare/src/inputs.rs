@@ -1,6 +1,6 @@
 // Random calls: lawful ones, and the same with one or more parts damaged.
 
-use crate::call::Call;
+use crate::call::{Call, DEFAULT_LIMIT};
 use crate::random::Random;
 
 fn lawful_taps(random: &mut Random, cells: usize) -> u64 {
@@ -41,6 +41,7 @@ pub fn lawful(
     Call {
         cells,
         taps,
+        limit: DEFAULT_LIMIT,
         masks,
         stop,
         depth,

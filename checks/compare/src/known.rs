@@ -254,7 +254,7 @@ const SEEDS_AT_LIMIT: [Many; 10] = [
 ];
 
 /// The text with what stands in the place of some of its lines.
-fn with(text: &str, changes: &[(usize, &[u8])]) -> Vec<u8> {
+pub fn with(text: &str, changes: &[(usize, &[u8])]) -> Vec<u8> {
     let mut lines: Vec<&[u8]> = text.split_inclusive('\n').map(str::as_bytes).collect();
     for (line, new) in changes {
         lines[line - 1] = new;
@@ -300,8 +300,22 @@ fn answer(number: u64, at: usize) -> Result<(), Refused> {
     }
 }
 
-/// Single lines changed, several, and numbers of lines at their limit.
-fn changed(program: Program) -> Vec<Known> {
+/// Single lines of cells, taps, chains and chain changed.
+fn head_changes(program: Program) -> Vec<Known> {
+    let text = match program {
+        Program::Encode => SHEET,
+        Program::Expand => LIST,
+    };
+    let mut known = Vec::new();
+    for &(line, new, number, at) in &HEAD {
+        let text = Text::new(program, with(text, &[(line, new)]));
+        known.push((text, answer(number, at)));
+    }
+    known
+}
+
+/// Single lines of the others changed, several, and numbers of lines at their limit.
+pub fn own_changes(program: Program) -> Vec<Known> {
     let (text, own, several, limits) = match program {
         Program::Encode => (
             SHEET,
@@ -317,7 +331,7 @@ fn changed(program: Program) -> Vec<Known> {
         ),
     };
     let mut known = Vec::new();
-    for &(line, new, number, at) in HEAD.iter().chain(own) {
+    for &(line, new, number, at) in own {
         let text = Text::new(program, with(text, &[(line, new)]));
         known.push((text, answer(number, at)));
     }
@@ -341,8 +355,10 @@ pub fn all() -> Vec<Known> {
         (Text::new(Program::Expand, SHEET.into()), refused(13, 6)),
         (Text::new(Program::Encode, LIST.into()), refused(13, 6)),
     ];
-    known.extend(changed(Program::Encode));
-    known.extend(changed(Program::Expand));
+    for program in [Program::Encode, Program::Expand] {
+        known.extend(head_changes(program));
+        known.extend(own_changes(program));
+    }
     known.extend(short());
     known
 }

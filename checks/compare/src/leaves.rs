@@ -7,7 +7,6 @@ use crate::random::Random;
 use crate::report::{same, Outcome};
 use crate::seen::Seen;
 use second::{check_chains, check_register, Refused};
-use seeds::{Machine, Settings};
 
 /// Cause 10 of a state: it is the one seed that is handed in, so its place is 0.
 fn check_state(cells: usize, state: u64) -> Result<(), Refused> {
@@ -18,14 +17,14 @@ fn check_state(cells: usize, state: u64) -> Result<(), Refused> {
 }
 
 /// The state after one step by the second program: cause 1, then 10.
-fn stepped(call: &Call, state: u64) -> Result<u64, Refused> {
+pub fn stepped(call: &Call, state: u64) -> Result<u64, Refused> {
     check_register(call.cells as u64, call.taps)?;
     check_state(call.cells, state)?;
     Ok(second::step(call.cells as u64, call.taps, state))
 }
 
 /// The slice of a state by the second program: causes 1 and 2, then 10.
-fn sliced(call: &Call, state: u64) -> Result<u64, Refused> {
+pub fn sliced(call: &Call, state: u64) -> Result<u64, Refused> {
     check_register(call.cells as u64, call.taps)?;
     check_chains(call.cells as u64, &call.masks)?;
     check_state(call.cells, state)?;
@@ -52,7 +51,7 @@ pub fn steps() -> Outcome {
         let mut state = any_state(&mut random, &call);
         for _ in 0..10 {
             let told = stepped(&call, state);
-            let ours = library::step(Settings::new(call.cells, call.taps), state);
+            let ours = library::step(call.settings(), state);
             let what = format!("step from {state:x} of {call:x?}");
             same(&what, ours, StateAnswer::like(told))?;
             seen.answer(&told);
@@ -75,8 +74,7 @@ pub fn slices() -> Outcome {
         }
         let state = any_state(&mut random, &call);
         let told = sliced(&call, state);
-        let settings = Settings::new(call.cells, call.taps);
-        let ours = library::slice(Machine::new(settings, &call.masks), state);
+        let ours = library::slice(call.machine(), state);
         let what = format!("slice of {state:x} of {call:x?}");
         same(&what, ours, SliceAnswer::like(told))?;
         seen.answer(&told);
@@ -94,7 +92,8 @@ fn number<T>(answer: Result<T, Refused>) -> usize {
     }
 }
 
-fn compare(call: &Call) -> Result<usize, String> {
+/// The five checks of one call.
+pub fn compare_checks(call: &Call) -> Outcome {
     same(
         &format!("check of the window {call:x?}"),
         call.check_window(),
@@ -132,7 +131,7 @@ pub fn checks() -> Outcome {
         for _ in 0..round % 4 {
             damage(&mut random, &mut call);
         }
-        count += compare(&call)?;
+        count += compare_checks(&call)?;
     }
     Ok(count)
 }
@@ -153,7 +152,7 @@ pub fn wide_checks() -> Outcome {
         damage(&mut random, &mut call);
         damage(&mut random, &mut call);
         if refused_unsearched(&call) {
-            count += compare(&call)?;
+            count += compare_checks(&call)?;
         }
     }
     Ok(count)

@@ -107,8 +107,13 @@ pub fn expand_text(text: &mut [u8], out: &mut [u8]) -> TextAnswer {
 }
 
 impl Call {
-    fn machine(&self) -> Machine<'_> {
-        Machine::new(Settings::new(self.cells, self.taps), &self.masks)
+    /// The register with its limit.
+    pub fn settings(&self) -> Settings {
+        Settings::new(self.cells, self.taps).with_limit(self.limit)
+    }
+
+    pub fn machine(&self) -> Machine<'_> {
+        Machine::new(self.settings(), &self.masks)
     }
 
     fn set(&self) -> TestSlices<'_> {

@@ -37,12 +37,15 @@ mod text;
 mod texts;
 mod values;
 mod wide;
+mod window_limit;
 mod windows;
 
 use report::Report;
 use std::io::Write;
 use std::path::Path;
 use std::process::{Command, ExitCode, Stdio};
+use window_limit::texts::{by_library, by_programs};
+use window_limit::{every, few, growing, lines, lists, outside};
 
 /// Runs the second program, which is built beside this one, with a standard input.
 fn second_program(word: &str, input: &str) -> Result<String, String> {
@@ -99,12 +102,21 @@ fn main() -> ExitCode {
         ["sample", root, file] => return sample(root, file),
         ["texts", count] => return texts_alone(count),
         ["load", count] => return load::run(count),
+        ["TEMP"] => {
+            let mut report = Report::new();
+            library_limits(&mut report);
+            library_texts(&mut report, 100);
+            program_texts(&mut report, 100);
+            report.end();
+            return ExitCode::SUCCESS;
+        }
         _ => {}
     }
     let mut report = Report::new();
     examples(&mut report);
     library_leaves(&mut report);
     library_encodes(&mut report);
+    library_limits(&mut report);
     library_texts(&mut report, texts::RANDOM_TEXTS);
     program_texts(&mut report, programs::RANDOM_TEXTS);
     if report.end() {
@@ -167,9 +179,34 @@ fn library_encodes(report: &mut Report) {
     report.case("library: sets of 64 cells", wide::answers());
 }
 
+/// The library under limits of windows.
+fn library_limits(report: &mut Report) {
+    report.case("library: limits outside 1 to 256", outside::answers());
+    report.case("library: every limit, slices of x", every::free());
+    report.case("library: every limit, delivered sets", every::delivered());
+    report.case("library: every limit, packed cubes", every::packed_cubes());
+    report.case("library: every limit, lists", lists::answers());
+    report.case(
+        "library: small limits, every small list",
+        lists::every_small_list(),
+    );
+    report.case(
+        "library: small limits against brute force",
+        few::random_sets(),
+    );
+    report.case(
+        "library: small limits, every small set",
+        few::every_small_set(),
+    );
+    report.case("library: limits beyond the set", few::beyond_the_set());
+    report.case("library: growing limits", growing::answers());
+}
+
 /// The library's entries for texts.
 fn library_texts(report: &mut Report, count: usize) {
-    report.texts("library: known texts", texts::known());
+    report.texts("library: known texts", texts::known(known::all()));
+    report.texts("library: known window lines", texts::known(lines::all()));
+    report.texts("library: texts at every limit", by_library());
     report.texts("library: texts byte by byte", texts::byte_by_byte());
     report.texts("library: large texts", texts::large());
     report.texts("library: random texts", texts::random(count));
@@ -181,7 +218,12 @@ fn program_texts(report: &mut Report, count: usize) {
         Ok(paths) => paths,
         Err(why) => return report.case("programs", Err(why)),
     };
-    report.texts("programs: known texts", programs::known(&paths));
+    let known = programs::known(&paths, known::all());
+    report.texts("programs: known texts", known);
+    let lines = programs::known(&paths, lines::all());
+    report.texts("programs: known window lines", lines);
+    report.texts("programs: texts cut off", programs::cut(&paths));
+    report.texts("programs: texts at every limit", by_programs(&paths));
     report.texts("programs: large texts", programs::large(&paths));
     report.texts("programs: pieces and pauses", programs::in_pieces(&paths));
     report.texts("programs: encode into expand", programs::both(&paths));

@@ -2,7 +2,7 @@
 
 use crate::call::Call;
 use crate::seen::Seen;
-use second::{Refused, LONGEST_WINDOW, MOST_SLICES};
+use second::{Refused, GREATEST_DEPTH, MOST_SLICES};
 
 /// What a call is for.
 #[derive(Clone, Copy, PartialEq)]
@@ -15,15 +15,16 @@ pub enum Kind {
 /// Cause 3 by itself.
 fn out_of_range(kind: Kind, call: &Call) -> bool {
     let count = call.specified.len();
-    match kind {
-        Kind::Window => !(1..=LONGEST_WINDOW).contains(&count),
+    let lengths = match kind {
+        Kind::Window => !(1..=call.limit).contains(&count),
         Kind::Set => !(1..=MOST_SLICES).contains(&count),
         Kind::Cubes => {
-            !(1..=LONGEST_WINDOW).contains(&call.depth)
+            !(1..=GREATEST_DEPTH).contains(&(call.depth as u64))
                 || !(1..=MOST_SLICES).contains(&count)
                 || !count.is_multiple_of(call.depth)
         }
-    }
+    };
+    lengths || second::check_limit(call.limit as u64).is_err()
 }
 
 /// Those of causes 1 to 5 that hold, each judged by itself. Where there is one, the second program doesn't search.

@@ -40,6 +40,10 @@ pub fn empty_line(random: &mut Random, lines: &mut Lines) {
 /// A line of this kind of text or of the other, anywhere.
 pub fn inserted(random: &mut Random, lines: &mut Lines) {
     let others = [
+        "window=1\n",
+        "window=2\n",
+        "window=256\n",
+        "window=0\n",
         "depth=1\n",
         "stop=1\n",
         "stop=0x\n",

@@ -2,7 +2,7 @@
 
 use crate::child::{run, run_both, Ended, Way};
 use crate::damage::{self, any_text};
-use crate::known;
+use crate::known::Known;
 use crate::largest::{largest, sized};
 use crate::random::Random;
 use crate::remarks;
@@ -83,7 +83,7 @@ fn slices(text: &[u8]) -> Vec<&[u8]> {
 }
 
 /// Slices agree with a sheet: as many, and each with every specified bit.
-fn agree(sheet: &[u8], printed: &[u8]) -> bool {
+pub fn agree(sheet: &[u8], printed: &[u8]) -> bool {
     let (sheet, printed) = (slices(sheet), slices(printed));
     let fits = |(asked, given): (&&[u8], &&[u8])| {
         let free = |(asked, given): (&u8, &u8)| *asked == b'x' || asked == given;
@@ -138,18 +138,25 @@ fn compare_all(paths: &Paths, texts: &[(Text, Way)]) -> Result<Tally, String> {
     })
 }
 
-/// Texts whose answers are known, and document 01's sheet and list cut after each byte.
-pub fn known(paths: &Paths) -> Result<Tally, String> {
-    let known = known::all().into_iter().map(|(text, _)| text);
-    let texts: Vec<_> = known.chain(cuts()).map(|text| (text, Way::Whole)).collect();
+/// Each of these texts, whole.
+pub fn compare_whole(paths: &Paths, texts: impl Iterator<Item = Text>) -> Result<Tally, String> {
+    let texts: Vec<_> = texts.map(|text| (text, Way::Whole)).collect();
     compare_all(paths, &texts)
+}
+
+/// Texts whose answers are known.
+pub fn known(paths: &Paths, known: Vec<Known>) -> Result<Tally, String> {
+    compare_whole(paths, known.into_iter().map(|(text, _)| text))
+}
+
+/// Document 01's sheet and list, without and with a window line, cut after each byte.
+pub fn cut(paths: &Paths) -> Result<Tally, String> {
+    compare_whole(paths, cuts().into_iter())
 }
 
 /// Large texts.
 pub fn large(paths: &Paths) -> Result<Tally, String> {
-    let texts = large_texts(&mut Random(31))?;
-    let texts: Vec<_> = texts.into_iter().map(|text| (text, Way::Whole)).collect();
-    compare_all(paths, &texts)
+    compare_whole(paths, large_texts(&mut Random(31))?.into_iter())
 }
 
 /// Input in pieces of 1 byte, 7 bytes and more; output that is taken slowly, and while the program is stopped and continued.

@@ -17,37 +17,50 @@ fn key_at(text: &[u8], at: u64) -> String {
     }
 }
 
-/// Notes the answer; of a refused line its key.
-pub fn note(text: &Text, told: &Told, seen: &mut Seen) {
-    let program = text.program.name();
+/// The answer in a word or two; of a refused line its key.
+fn named(text: &Text, told: &Told) -> String {
     let Err(Refused { number, value }) = told.answer else {
-        seen.note(&format!("{program}, accepted"));
-        return;
+        return "accepted".into();
     };
     let at_line = matches!(number, 1 | 2 | 5 | 13) || number == 3 && value > 0;
-    let place = match at_line {
+    match at_line {
         true => format!("{number} at {}", key_at(&text.bytes, value)),
         false => format!("{number}"),
-    };
-    seen.note(&format!("{program}, {place}"));
+    }
+}
+
+/// Notes the answer, and whether the text has a window line.
+pub fn note(text: &Text, told: &Told, seen: &mut Seen) {
+    let (program, answer) = (text.program.name(), named(text, told));
+    seen.note(&format!("{program}, {answer}"));
+    let mut lines = text.bytes.split_inclusive(|&byte| byte == b'\n');
+    if lines.any(|line| line.starts_with(b"window=")) {
+        seen.note(&format!("{program}, {answer} with a window line"));
+    }
 }
 
 /// What must be met in sheets.
-const SHEETS: [&str; 20] = [
+const SHEETS: [&str; 26] = [
     "accepted",
+    "accepted with a window line",
     "1 at cells=",
     "1 at taps=",
     "2 at chains=",
     "2 at chain=",
     "3",
+    "3 at window=",
     "3 at depth=",
     "3 at slice=",
     "6",
+    "6 with a window line",
     "8",
+    "8 with a window line",
+    "13 at depth= with a window line",
     "13 at cells=",
     "13 at taps=",
     "13 at chains=",
     "13 at chain=",
+    "13 at window=",
     "13 at depth=",
     "13 at slice=",
     "13 at stop=",
@@ -57,22 +70,28 @@ const SHEETS: [&str; 20] = [
 ];
 
 /// What must be met in lists.
-const LISTS: [&str; 23] = [
+const LISTS: [&str; 29] = [
     "accepted",
+    "accepted with a window line",
     "1 at cells=",
     "1 at taps=",
     "2 at chains=",
     "2 at chain=",
+    "3 at window=",
     "3 at slices=",
     "3 at seed=",
     "5 at stop=",
     "10",
     "11",
+    "11 with a window line",
     "12",
+    "12 with a window line",
+    "14 with a window line",
     "13 at cells=",
     "13 at taps=",
     "13 at chains=",
     "13 at chain=",
+    "13 at window=",
     "13 at stop=",
     "13 at slices=",
     "13 at seed=",

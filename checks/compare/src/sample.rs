@@ -1,9 +1,10 @@
 // The definitions against the second program: a specification file that states the second program's answers on random inputs.
 // The proof checker computes each answer from the definitions of specs/ and refuses the file where one differs.
 
-use crate::call::Call;
+use crate::call::{Call, DEFAULT_LIMIT};
 use crate::inputs::{damage_lightly, lawful, thin};
 use crate::random::Random;
+use crate::runs::alone;
 use crate::stops::pressed;
 use second::{Refused, StopTrace};
 use std::collections::{BTreeMap, BTreeSet};
@@ -104,6 +105,8 @@ use Rattle.refusal_causes.specs.declared.Written.the-variants as written
 use Rattle.refusal_causes.specs.Outcome.{Outcome}
 use Rattle.machine_settings.specs.Machine.{base}
 use Rattle.machine_slices.specs.declared.TestSlice.{TestSlice}
+use Rattle.encoder_meaning.specs.declared.Encoded.the-variants as encoded-cubes
+use Rattle.encoder_cubes.specs.Cubes.{CubesOutcome}
 use Rattle.stop_slice.specs.declared.Formed.{Formed}
 use Rattle.stop_slice.specs.declared.Formed.the-variants as formed
 use Rattle.theory_covering.specs.declared.Seed.{Seed}
@@ -114,7 +117,7 @@ use Rattle.text_calls.specs.Texts.{encodeText, expandText}
 
 /// Questions and answers of one kind.
 struct Table {
-    name: &'static str,
+    name: String,
     kind: &'static str,
     rows: Vec<(String, String)>,
 }
@@ -179,13 +182,63 @@ fn outcome(answer: Result<usize, Refused>, buffer: &[u64]) -> String {
     )
 }
 
+/// The answer of a call for cubes, and the buffer.
+fn cubes_outcome(answer: Result<(u64, u64, usize), Refused>, buffer: &[u64]) -> String {
+    let answer = match answer {
+        Ok((specified, bits, count)) => {
+            format!("encoded-cubes.Seeds {} {count}", slice((specified, bits)))
+        }
+        Err(refused) => format!("encoded-cubes.Refused {}", cause(refused)),
+    };
+    let buffer = list(buffer);
+    format!("(record {{ answer = {answer}; buffer = {buffer} }})")
+}
+
+/// The settings and the masks. Where no limit is given they are document 01's.
 fn settings(call: &Call) -> String {
-    format!("(base {} {}) {}", call.cells, call.taps, list(&call.masks))
+    let (cells, taps, limit) = (call.cells, call.taps, call.limit);
+    let settings = match limit {
+        DEFAULT_LIMIT => format!("base {cells} {taps}"),
+        _ => format!("record {{ cells = {cells}; taps = {taps}; limit = {limit} }}"),
+    };
+    format!("({settings}) {}", list(&call.masks))
+}
+
+/// Which limits the calls of a table have.
+#[derive(Clone, Copy, PartialEq)]
+enum Limits {
+    /// Document 01's 256, which no text names.
+    Default,
+    /// Small ones, and now and then 0, 256 or 257; each text names its own.
+    Any,
+}
+
+impl Limits {
+    fn one(self, random: &mut Random) -> usize {
+        match self {
+            Limits::Default => DEFAULT_LIMIT,
+            Limits::Any => match random.below(12) {
+                0 => 0,
+                1 => 256,
+                2 => 257,
+                _ => random.between(1, 4),
+            },
+        }
+    }
+
+    /// The name of a table, by its kind.
+    fn name(self, kind: &str) -> String {
+        match self {
+            Limits::Default => kind.into(),
+            Limits::Any => format!("limited-{kind}"),
+        }
+    }
 }
 
 /// A small call, whole or damaged.
-fn small(random: &mut Random) -> Call {
+fn small(random: &mut Random, limits: Limits) -> Call {
     let mut call = lawful(random, 5, 3, 6);
+    call.limit = limits.one(random);
     if random.one_in(2) {
         thin(random, &mut call);
     }
@@ -195,9 +248,15 @@ fn small(random: &mut Random) -> Call {
     call
 }
 
-fn windows(random: &mut Random, count: usize) -> Table {
+fn windows(random: &mut Random, limits: Limits, count: usize) -> Table {
     let rows = (0..count).map(|_| {
-        let call = small(random);
+        let mut call = small(random, limits);
+        // of windows above the limit, most by one slice
+        if limits == Limits::Any && !random.one_in(8) {
+            let most = random.between(1, call.limit + 1);
+            call.specified.truncate(most);
+            call.bits.truncate(most);
+        }
         let told = match call.window_seed() {
             Ok(state) => format!("seed.Lowest {state}"),
             Err(refused) => format!("seed.Refused {}", cause(refused)),
@@ -213,15 +272,15 @@ fn windows(random: &mut Random, count: usize) -> Table {
         )
     });
     Table {
-        name: "windows",
+        name: limits.name("windows"),
         kind: "Seed",
         rows: rows.collect(),
     }
 }
 
-fn sets(random: &mut Random, count: usize) -> Table {
+fn sets(random: &mut Random, limits: Limits, count: usize) -> Table {
     let rows = (0..count).map(|_| {
-        let call = small(random);
+        let call = small(random, limits);
         let lent = vec![77; random.between(0, 4)];
         let mut out = lent.clone();
         let answer = call.encode_set(&mut out);
@@ -237,17 +296,64 @@ fn sets(random: &mut Random, count: usize) -> Table {
         )
     });
     Table {
-        name: "sets",
+        name: limits.name("sets"),
         kind: "Outcome",
         rows: rows.collect(),
     }
 }
 
-fn lists(random: &mut Random, count: usize) -> Table {
+fn cubes(random: &mut Random, limits: Limits, count: usize) -> Table {
     let rows = (0..count).map(|_| {
-        let mut call = small(random);
-        if random.one_in(2) {
-            call.slices = random.between(1, 12);
+        let mut call = small(random, limits);
+        if random.one_in(8) {
+            call.depth = random.between(0, 8);
+        }
+        let lent = vec![77; random.between(0, 4)];
+        let mut out = lent.clone();
+        let answer = call.encode_cubes(&mut out);
+        let set = format!("{} {}", list(&call.specified), list(&call.bits));
+        let depth = call.depth;
+        (
+            format!(
+                "encodeCubes {} {depth} {set} {}",
+                settings(&call),
+                list(&lent)
+            ),
+            cubes_outcome(answer, &out),
+        )
+    });
+    Table {
+        name: limits.name("cubes"),
+        kind: "CubesOutcome",
+        rows: rows.collect(),
+    }
+}
+
+/// The call gets up to four seeds that run into its stop slice within the limit, and their total, where a small register has any.
+fn run_in(random: &mut Random, call: &mut Call) {
+    if call.cells > 5 {
+        return;
+    }
+    let length = |seed| Some((seed, alone(call, seed).ok()?));
+    let running: Vec<(u64, usize)> = (0..1 << call.cells).filter_map(length).collect();
+    if running.is_empty() {
+        return;
+    }
+    (call.seeds, call.slices) = (Vec::new(), 0);
+    for _ in 0..random.between(1, 4) {
+        let (seed, slices) = running[random.between(0, running.len() - 1)];
+        call.seeds.push(seed);
+        call.slices += slices;
+    }
+}
+
+fn lists(random: &mut Random, limits: Limits, count: usize) -> Table {
+    let rows = (0..count).map(|_| {
+        let mut call = small(random, limits);
+        match random.below(4) {
+            0 => call.slices = random.between(1, 12),
+            1 | 2 => run_in(random, &mut call),
+            _ => {}
         }
         if random.one_in(6) {
             call.seeds.push(random.bits(6));
@@ -262,7 +368,7 @@ fn lists(random: &mut Random, count: usize) -> Table {
         )
     });
     Table {
-        name: "lists",
+        name: limits.name("lists"),
         kind: "Outcome",
         rows: rows.collect(),
     }
@@ -302,7 +408,7 @@ fn stops(random: &mut Random, count: usize) -> Table {
         (format!("stopOf {chains} {set}"), told)
     });
     Table {
-        name: "stops",
+        name: "stops".into(),
         kind: "Formed",
         rows: rows.collect(),
     }
@@ -354,21 +460,30 @@ fn stages(random: &mut Random, count: usize) -> Table {
         )
     });
     Table {
-        name: "stages",
+        name: "stages".into(),
         kind: "List (List TestSlice)",
         rows: rows.collect(),
     }
 }
 
-/// The lines of a sheet.
-fn sheet(random: &mut Random, call: &Call) -> Vec<String> {
-    let chains = call.masks.len();
+/// The lines before depth or stop.
+fn head(call: &Call, limits: Limits) -> Vec<String> {
     let mut lines = vec![
         format!("cells={}", call.cells),
         format!("taps={:x}", call.taps),
-        format!("chains={chains}"),
+        format!("chains={}", call.masks.len()),
     ];
     lines.extend(call.masks.iter().map(|mask| format!("chain={mask:x}")));
+    if limits == Limits::Any {
+        lines.push(format!("window={}", call.limit));
+    }
+    lines
+}
+
+/// The lines of a sheet.
+fn sheet(random: &mut Random, call: &Call, limits: Limits) -> Vec<String> {
+    let chains = call.masks.len();
+    let mut lines = head(call, limits);
     let depth = if random.one_in(8) {
         random.between(0, 300)
     } else {
@@ -385,9 +500,8 @@ fn sheet(random: &mut Random, call: &Call) -> Vec<String> {
 }
 
 /// The lines of a seed list.
-fn seed_list(random: &mut Random, call: &Call) -> Vec<String> {
-    let mut lines = sheet(random, call);
-    lines.truncate(3 + call.masks.len());
+fn seed_list(random: &mut Random, call: &Call, limits: Limits) -> Vec<String> {
+    let mut lines = head(call, limits);
     let (specified, bits) = call.stop;
     lines.push(format!(
         "stop={}",
@@ -427,18 +541,19 @@ fn quoted(text: &str) -> String {
     format!("bytes \"{}\"", text.replace('\n', "\\n"))
 }
 
-fn texts(random: &mut Random, count: usize) -> Table {
+fn texts(random: &mut Random, limits: Limits, count: usize) -> Table {
     let rows = (0..count).map(|place| {
         let mut call = lawful(random, 5, 3, 6);
+        call.limit = limits.one(random);
         if random.one_in(2) {
             thin(random, &mut call);
         }
         let (word, lines) = if place % 2 == 0 {
-            ("encodeText", sheet(random, &call))
+            ("encodeText", sheet(random, &call, limits))
         } else if place % 4 == 1 {
-            ("expandText", seed_list(random, &call))
+            ("expandText", seed_list(random, &call, limits))
         } else {
-            let input = sheet(random, &call).join("\n") + "\n";
+            let input = sheet(random, &call, limits).join("\n") + "\n";
             let printed = second::encode_text(input.as_bytes());
             let printed = String::from_utf8(printed).expect("printed text is ASCII");
             ("expandText", printed.lines().map(String::from).collect())
@@ -452,7 +567,7 @@ fn texts(random: &mut Random, count: usize) -> Table {
         (format!("{word} ({})", quoted(&input)), quoted(&printed))
     });
     Table {
-        name: "texts",
+        name: limits.name("texts"),
         kind: "List ℕ",
         rows: rows.collect(),
     }
@@ -461,13 +576,20 @@ fn texts(random: &mut Random, count: usize) -> Table {
 /// Writes the file and answers how many answers it states.
 pub fn write(root: &Path, file: &Path) -> io::Result<usize> {
     let mut random = Random(9);
+    let (default, any) = (Limits::Default, Limits::Any);
     let tables = [
-        windows(&mut random, 500),
-        sets(&mut random, 400),
-        lists(&mut random, 400),
+        windows(&mut random, default, 500),
+        sets(&mut random, default, 400),
+        lists(&mut random, default, 400),
         stops(&mut random, 400),
-        texts(&mut random, 800),
+        texts(&mut random, default, 800),
         stages(&mut random, 100),
+        cubes(&mut random, default, 100),
+        windows(&mut random, any, 200),
+        sets(&mut random, any, 200),
+        cubes(&mut random, any, 200),
+        lists(&mut random, any, 200),
+        texts(&mut random, any, 400),
     ];
     let (lines, names) = definitions(root)?;
     let unfolding = format!("ones onesIn {}", names.join(" "));

@@ -1,10 +1,10 @@
-// Sheets and seed lists as lines: of a call, and random lawful ones.
+// Sheets and seed lists as lines: of a call, with a window line or without, and random lawful ones.
 
-use crate::call::Call;
+use crate::call::{Call, DEFAULT_LIMIT};
 use crate::encodes::small;
-use crate::inputs::{fill, shaped};
+use crate::inputs::{fill, lawful, shaped};
 use crate::random::Random;
-use crate::runs::pool;
+use crate::runs::pool_of;
 use crate::text::Program;
 use crate::wide;
 
@@ -44,6 +44,14 @@ pub fn list(call: &Call) -> Lines {
     lines.push(format!("slices={}\n", call.slices));
     lines.extend(call.seeds.iter().map(|seed| format!("seed={seed:x}\n")));
     as_bytes(lines)
+}
+
+/// The same lines with a window line behind the chain lines.
+pub fn limited(mut lines: Lines, limit: usize) -> Lines {
+    let chain = |line: &Vec<u8>| line.starts_with(b"chain=");
+    let behind = lines.iter().rposition(chain).map_or(0, |place| place + 1);
+    lines.insert(behind, format!("window={limit}\n").into_bytes());
+    lines
 }
 
 /// A set of 2,047 or 2,048 slices for up to 64 chains, dense enough that its windows are short.
@@ -99,10 +107,11 @@ fn encoded(mut call: Call) -> Option<Call> {
     Some(call)
 }
 
-/// A list of states that run into the stop, in one of two cases with seeds that are refused or with any states.
-fn made(random: &mut Random) -> Call {
+/// A list of states that run into the stop within the limit, in one of two cases with seeds that are refused or with any states.
+fn made(random: &mut Random, limit: usize) -> Call {
     let (cells, chains) = [(6, 4), (12, 6), (64, 64)][random.between(0, 2)];
-    let pool = pool(random, cells, chains);
+    let call = lawful(random, cells, chains, 1);
+    let pool = pool_of(random, Call { limit, ..call });
     let (mut call, _) = pool.list(random, 7);
     for _ in 0..[0, 0, 1, 2][random.between(0, 3)] {
         let place = random.between(0, call.seeds.len());
@@ -118,15 +127,29 @@ fn made(random: &mut Random) -> Call {
     call
 }
 
-/// A random sheet or list; most are lawful.
-pub fn any(random: &mut Random, program: Program) -> Lines {
+/// A random sheet or list at a limit, without a window line; most are lawful.
+pub fn any_at(random: &mut Random, program: Program, limit: usize) -> Lines {
+    let set = |random: &mut Random| Call {
+        limit,
+        ..any_set(random)
+    };
     if program == Program::Encode {
-        return sheet(&any_set(random));
+        return sheet(&set(random));
     }
     if random.one_in(2) {
-        if let Some(call) = encoded(any_set(random)) {
+        if let Some(call) = encoded(set(random)) {
             return list(&call);
         }
     }
-    list(&made(random))
+    list(&made(random, limit))
+}
+
+/// A random sheet or list; every second has a window line, most of them with a small limit.
+pub fn any(random: &mut Random, program: Program) -> Lines {
+    if random.one_in(2) {
+        return any_at(random, program, DEFAULT_LIMIT);
+    }
+    let most = [4, 20, 60, 256][random.between(0, 3)];
+    let limit = [random.between(1, most), 256][usize::from(random.one_in(8))];
+    limited(any_at(random, program, limit), limit)
 }

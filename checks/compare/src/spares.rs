@@ -6,7 +6,7 @@ use crate::seen::Seen;
 use crate::stops::{compare, Set};
 
 /// All slices of so many chains, as specified positions and bits.
-fn all_slices(chains: usize) -> Vec<(u64, u64)> {
+pub fn all_slices(chains: usize) -> Vec<(u64, u64)> {
     let patterns = 1 << chains;
     let mut slices = Vec::new();
     for specified in 0..patterns {
@@ -20,7 +20,7 @@ fn all_slices(chains: usize) -> Vec<(u64, u64)> {
 }
 
 /// The set of so many slices, each a digit of the number in the base of all slices.
-fn numbered(chains: usize, slices: &[(u64, u64)], length: usize, number: usize) -> Set {
+pub fn numbered(chains: usize, slices: &[(u64, u64)], length: usize, number: usize) -> Set {
     let mut set = Set::new(chains);
     let mut rest = number;
     for _ in 0..length {

@@ -2,7 +2,7 @@
 
 use crate::bench::{LIST, SHEET};
 use crate::damage::{self, any_text};
-use crate::known;
+use crate::known::Known;
 use crate::largest::{huge, largest, sized};
 use crate::library::{encode_text, expand_text, TextAnswer};
 use crate::random::Random;
@@ -10,6 +10,7 @@ use crate::remarks;
 use crate::report::{same, Outcome};
 use crate::tally::Tally;
 use crate::text::{first_difference, Program, Text, Told};
+use crate::window_limit::lines::put;
 use second::Refused;
 
 /// How many random texts the gate tries; so many meet everything that is required.
@@ -85,7 +86,7 @@ fn rooms(random: &mut Random, told: &Told) -> Vec<usize> {
 }
 
 /// One text with each of these buffers.
-fn compare(random: &mut Random, text: &Text, tally: &mut Tally) -> Result<(), String> {
+pub fn compare(random: &mut Random, text: &Text, tally: &mut Tally) -> Result<(), String> {
     let told = text.told();
     remarks::note(text, &told, &mut tally.seen);
     let mut input = with_more(&text.bytes);
@@ -98,10 +99,10 @@ fn compare(random: &mut Random, text: &Text, tally: &mut Tally) -> Result<(), St
 }
 
 /// Texts whose answers are known.
-pub fn known() -> Result<Tally, String> {
+pub fn known(texts: Vec<Known>) -> Result<Tally, String> {
     let mut random = Random(21);
     let mut tally = Tally::default();
-    for (text, known) in known::all() {
+    for (text, known) in texts {
         same("the second program", text.told().answer.map(|_| ()), known)
             .map_err(|why| format!("{why}, {}", text.shown()))?;
         compare(&mut random, &text, &mut tally)?;
@@ -109,12 +110,23 @@ pub fn known() -> Result<Tally, String> {
     Ok(tally)
 }
 
-/// Document 01's sheet and list, cut after each byte.
-pub fn cuts() -> Vec<Text> {
+/// Document 01's sheet and list, and the same with a window line.
+fn sheet_and_list() -> Vec<Text> {
     let mut texts = Vec::new();
     for (program, text) in [(Program::Encode, SHEET), (Program::Expand, LIST)] {
-        for end in 0..text.len() {
-            texts.push(Text::new(program, text.as_bytes()[..end].to_vec()));
+        texts.push(Text::new(program, text.into()));
+        let limited = put(text.as_bytes(), 6, b"window=25\n");
+        texts.push(Text::new(program, limited));
+    }
+    texts
+}
+
+/// These, cut after each byte.
+pub fn cuts() -> Vec<Text> {
+    let mut texts = Vec::new();
+    for text in sheet_and_list() {
+        for end in 0..text.bytes.len() {
+            texts.push(Text::new(text.program, text.bytes[..end].to_vec()));
         }
     }
     texts
@@ -141,16 +153,15 @@ fn byte_changes(
     Ok(())
 }
 
-/// Document 01's sheet and list, cut after each byte, and with each byte changed in every way.
+/// Document 01's sheet and list, without and with a window line, cut after each byte, and with each byte changed in every way.
 pub fn byte_by_byte() -> Result<Tally, String> {
     let mut random = Random(22);
     let mut tally = Tally::default();
     for text in cuts() {
         compare(&mut random, &text, &mut tally)?;
     }
-    for (program, bytes) in [(Program::Encode, SHEET), (Program::Expand, LIST)] {
-        let text = Text::new(program, bytes.into());
-        for at in 0..bytes.len() {
+    for text in sheet_and_list() {
+        for at in 0..text.bytes.len() {
             byte_changes(&mut random, &text, at, &mut tally)?;
         }
     }

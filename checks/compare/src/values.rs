@@ -5,9 +5,9 @@ use crate::random::Random;
 use crate::sheets::Lines;
 
 /// Every key, in the order of a sheet and then of a list.
-pub const KEYS: [&[u8]; 9] = [
-    b"cells=", b"taps=", b"chains=", b"chain=", b"depth=", b"slice=", b"stop=", b"slices=",
-    b"seed=",
+pub const KEYS: [&[u8]; 10] = [
+    b"cells=", b"taps=", b"chains=", b"chain=", b"window=", b"depth=", b"slice=", b"stop=",
+    b"slices=", b"seed=",
 ];
 
 /// Puts another value behind a line's key.
@@ -167,7 +167,7 @@ pub fn upper_key(random: &mut Random, lines: &mut Lines) {
 /// A key of this kind of text or of the other.
 pub fn other_key(random: &mut Random, lines: &mut Lines) {
     rekey(random, lines, |random, _| {
-        KEYS[random.between(0, 8)].to_vec()
+        KEYS[random.between(0, KEYS.len() - 1)].to_vec()
     });
 }
 

@@ -12,7 +12,7 @@ use crate::seen::Seen;
 use second::Refused;
 
 /// One window.
-fn compare(call: &Call, seen: &mut Seen) -> Outcome {
+pub fn compare(call: &Call, seen: &mut Seen) -> Outcome {
     let told = call.window_seed();
     note(Kind::Window, call, &told, seen);
     if told.is_ok_and(|seed| seed >> 63 == 1) {
@@ -25,7 +25,7 @@ fn compare(call: &Call, seen: &mut Seen) -> Outcome {
 }
 
 /// One window whose answer is known.
-fn compare_known(call: &Call, known: Result<u64, Refused>, seen: &mut Seen) -> Outcome {
+pub fn compare_known(call: &Call, known: Result<u64, Refused>, seen: &mut Seen) -> Outcome {
     same("the second program's seed", call.window_seed(), known)
         .map_err(|why| format!("{why} of the window {call:x?}"))?;
     compare(call, seen)

@@ -14,7 +14,7 @@ impl Numbers {
 }
 
 /// Lines that a text may get.
-const LINES: [&[u8]; 16] = [
+const LINES: [&[u8]; 22] = [
     b"cells=3\n",
     b"cells=64\n",
     b"taps=6\n",
@@ -22,6 +22,12 @@ const LINES: [&[u8]; 16] = [
     b"chains=2\n",
     b"chain=1\n",
     b"chain=5\n",
+    b"window=1\n",
+    b"window=2\n",
+    b"window=3\n",
+    b"window=64\n",
+    b"window=256\n",
+    b"window=0\n",
     b"depth=1\n",
     b"depth=2\n",
     b"slice=x1\n",

@@ -1,5 +1,5 @@
 // The entries by numbers against the second program: the answers, and every entry of each lent buffer.
-// Document 01, "Refusal sheet". A check's number is the refusal by 1 to 5 that the second program's call gives.
+// Document 01, "Refusal sheet"; document 02, R-3. A check's number is the refusal by 1 to 5 that the second program's call gives.
 
 use crate::lent::{lend, room};
 use crate::parts::{weights, Bytes, Parts};
@@ -45,7 +45,8 @@ fn entry(place: usize) -> u64 {
 /// A call's parts in the wrapper's words.
 impl Parts {
     fn machine(&self) -> Machine<'_> {
-        Machine::new(Settings::new(self.cells, self.taps), &self.masks)
+        let settings = Settings::new(self.cells, self.taps).with_limit(self.limit);
+        Machine::new(settings, &self.masks)
     }
 
     fn stop(&self) -> TestSlice {
@@ -74,7 +75,7 @@ fn check_state(cells: usize, state: u64) -> Result<(), Refused> {
     }
 }
 
-/// One step and the slice of a state.
+/// One step and the slice of a state, which do not look at the limit.
 fn state(p: &Parts, word: u64, choice: u8) {
     let state = match choice % 4 {
         0 => word,
@@ -127,6 +128,7 @@ fn window(p: &Parts) {
     let theirs = second::window_seed(
         cells,
         p.taps,
+        p.limit as u64,
         &p.masks,
         stop.specified,
         stop.bits,
@@ -153,6 +155,7 @@ fn set(p: &Parts, choice: u8) {
     let theirs = second::encode_set(
         cells,
         p.taps,
+        p.limit as u64,
         &p.masks,
         stop.specified,
         stop.bits,
@@ -181,6 +184,7 @@ fn cubes(p: &Parts, choice: u8) {
     let theirs = second::encode_cubes(
         cells,
         p.taps,
+        p.limit as u64,
         &p.masks,
         p.depth as u64,
         set.specified,
@@ -216,6 +220,7 @@ fn expanding(p: &Parts, choice: u8) {
     let theirs = second::expand(
         cells,
         p.taps,
+        p.limit as u64,
         &p.masks,
         stop.specified,
         stop.bits,

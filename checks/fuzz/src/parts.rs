@@ -1,11 +1,12 @@
 // A call by numbers, taken from bytes: mostly lawful, with any part unlawful where a flag says so.
-// Document 01, "Register and chains" and "Refusal sheet".
+// Document 01, "Register and chains" and "Refusal sheet"; document 02, R-3.
 
 /// What a call hands in; each entry takes the parts that it has.
 #[derive(Debug)]
 pub struct Parts {
     pub cells: usize,
     pub taps: u64,
+    pub limit: usize,
     pub masks: Vec<u64>,
     pub stop: (u64, u64),
     pub depth: usize,
@@ -23,6 +24,8 @@ const ANY_SLICES: u8 = 8;
 const ANY_LENGTHS: u8 = 16;
 const ANY_SEEDS: u8 = 32;
 const REPEATED: u8 = 64;
+/// The limit of windows comes from the input; otherwise it is document 01's 256.
+const OWN_LIMIT: u8 = 128;
 
 /// The bytes that are left of an input.
 pub struct Bytes<'a>(pub &'a [u8]);
@@ -85,6 +88,15 @@ fn cells(bytes: &mut Bytes) -> usize {
     }
 }
 
+/// A limit of windows: mostly a small one, 0 too, or one around 256, or any, or one far out of range.
+fn limit(bytes: &mut Bytes) -> usize {
+    match bytes.byte() {
+        byte @ 0..=199 => usize::from(byte) % 20,
+        byte @ 200..=229 => 250 + usize::from(byte) % 10,
+        _ => bytes.number(256),
+    }
+}
+
 /// A test slice for so many chains.
 fn test_slice(bytes: &mut Bytes, chains: usize, any: bool) -> (u64, u64) {
     if any {
@@ -102,6 +114,10 @@ impl Parts {
         let taps = match flags & ANY_TAPS {
             0 => bytes.word(width(cells)) & held | last,
             _ => bytes.word(8),
+        };
+        let limit = match flags & OWN_LIMIT {
+            0 => 256,
+            _ => limit(bytes),
         };
         let chains = usize::from(bytes.byte()) % 67;
         let mask = |bytes: &mut Bytes| match flags & ANY_MASKS {
@@ -121,6 +137,7 @@ impl Parts {
         Parts {
             cells,
             taps,
+            limit,
             masks,
             stop,
             depth,
