@@ -1,5 +1,7 @@
 // A case: what one measurement hands in, a set or a single window, and what is asked of it. Its text is what the measuring process reads.
 
+use seeds::LONGEST_WINDOW;
+
 /// What is asked of the slices.
 #[derive(Clone, Copy, Debug, PartialEq)]
 pub enum Ask {
@@ -24,6 +26,8 @@ pub struct Case {
     pub ask: Ask,
     pub cells: usize,
     pub taps: u64,
+    /// The most slices of a window.
+    pub window_limit: usize,
     pub masks: Vec<u64>,
     pub stop: (u64, u64),
     pub specified: Vec<u64>,
@@ -42,14 +46,18 @@ fn words(line: &str) -> Option<Vec<u64>> {
 }
 
 impl Case {
+    /// The window limit is written where it is not 256: so the benchmark program of an earlier commit reads the other texts.
     pub fn text(&self) -> String {
-        let numbers = [
+        let mut numbers = vec![
             self.ask as u64,
             self.cells as u64,
             self.taps,
             self.stop.0,
             self.stop.1,
         ];
+        if self.window_limit != LONGEST_WINDOW {
+            numbers.push(self.window_limit as u64);
+        }
         [&numbers, &self.masks[..], &self.specified, &self.bits]
             .map(line)
             .concat()
@@ -57,13 +65,18 @@ impl Case {
 
     pub fn read(text: &str) -> Option<Case> {
         let mut lines = text.lines().map(words);
-        let [ask, cells, taps, specified, bits] = lines.next()??[..] else {
+        let mut numbers = lines.next()??;
+        if numbers.len() == 5 {
+            numbers.push(LONGEST_WINDOW as u64);
+        }
+        let [ask, cells, taps, specified, bits, window_limit] = numbers[..] else {
             return None;
         };
         Some(Case {
             ask: Ask::numbered(ask)?,
             cells: cells as usize,
             taps,
+            window_limit: window_limit as usize,
             stop: (specified, bits),
             masks: lines.next()??,
             specified: lines.next()??,

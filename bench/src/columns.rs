@@ -108,6 +108,7 @@ fn fast_set(case: &Case) -> Result<Vec<u64>, usize> {
     fast::encode(
         case.cells,
         case.taps,
+        case.window_limit,
         &case.masks,
         case.stop,
         &case.specified,
@@ -123,6 +124,7 @@ fn second_window(case: &Case) -> Answer {
     let told = second::window_seed(
         case.cells as u64,
         case.taps,
+        case.window_limit as u64,
         &case.masks,
         case.stop.0,
         case.stop.1,
@@ -140,6 +142,7 @@ fn second_set(case: &Case) -> Answer {
     let told = second::encode_set(
         case.cells as u64,
         case.taps,
+        case.window_limit as u64,
         &case.masks,
         case.stop.0,
         case.stop.1,

@@ -3,6 +3,7 @@
 use crate::case::{Ask, Case};
 use crate::random::Random;
 use crate::sets::{some_positions, stop_by_steps, TAPS};
+use seeds::LONGEST_WINDOW;
 
 const RING: u64 = 1 << 63;
 
@@ -45,6 +46,7 @@ pub fn window(register: &Register, positions: u32, length: usize) -> Case {
         ask: Ask::Window,
         cells: 64,
         taps: register.taps,
+        window_limit: LONGEST_WINDOW,
         masks: register.masks.clone(),
         stop: (positions, bits),
         specified: vec![0; length],

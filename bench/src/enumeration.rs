@@ -2,7 +2,6 @@
 
 use crate::case::Case;
 use crate::space::{odd, rows, Space};
-use second::LONGEST_WINDOW;
 
 /// What trying a state needs: the register, and the masks and bits of the stop's positions.
 struct Runner {
@@ -57,7 +56,7 @@ impl Runner {
 fn prefixes(case: &Case, table: &[Vec<u64>], start: usize) -> Vec<Space> {
     let mut spaces = vec![Space::all(case.cells)];
     let slices = case.specified[start..].iter().zip(&case.bits[start..]);
-    for ((&specified, &bits), row) in slices.zip(table).take(LONGEST_WINDOW) {
+    for ((&specified, &bits), row) in slices.zip(table).take(case.window_limit) {
         let mut space = spaces[spaces.len() - 1].clone();
         if !space.keep_slice(row, specified, bits) {
             break;
@@ -94,7 +93,7 @@ fn longest(case: &Case, table: &[Vec<u64>], start: usize) -> Option<(usize, u64)
 
 /// The seeds of the case's slices as a set; or the slices of the longest start that can be cut.
 pub fn set(case: &Case) -> Result<Vec<u64>, usize> {
-    let table = rows(case, LONGEST_WINDOW);
+    let table = rows(case, case.window_limit);
     let (mut seeds, mut start) = (Vec::new(), 0);
     while start < case.specified.len() {
         let (length, seed) = longest(case, &table, start).ok_or(start)?;

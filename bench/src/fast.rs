@@ -8,25 +8,23 @@ mod window;
 
 use window::{room, Machine};
 
-/// The most slices of a window.
-const LONGEST: usize = 256;
-
-/// The seeds of a set; or refusal 8's value, the slices of the longest start that can be cut.
+/// The seeds of a set, for windows of at most `limit` slices; or refusal 8's value, the slices of the longest start that can be cut.
 pub fn encode(
     cells: usize,
     taps: u64,
+    limit: usize,
     masks: &[u64],
     stop: (u64, u64),
     specified: &[u64],
     bits: &[u64],
 ) -> Result<Vec<u64>, usize> {
-    let most = specified.len().min(LONGEST);
+    let most = specified.len().min(limit);
     let machine = Machine::new(cells, taps, masks, stop, most);
     let mut room = room();
     let mut seeds = Vec::new();
     let mut start = 0;
     while start < specified.len() {
-        let end = specified.len().min(start + LONGEST);
+        let end = specified.len().min(start + limit);
         let reached = machine.reach(&specified[start..end], &bits[start..end], &mut room);
         let (slices, seed) = reached.ok_or(start)?;
         seeds.push(seed);

@@ -6,7 +6,8 @@ use seeds::{Machine, Refusal, Settings, TestSlice, TestSlices};
 
 /// The case's register and chains, its stop slice and its slices.
 fn parts(case: &Case) -> (Machine<'_>, TestSlice, TestSlices<'_>) {
-    let machine = Machine::new(Settings::new(case.cells, case.taps), &case.masks);
+    let settings = Settings::new(case.cells, case.taps).with_limit(case.window_limit);
+    let machine = Machine::new(settings, &case.masks);
     let stop = TestSlice {
         specified: case.stop.0,
         bits: case.stop.1,

@@ -1,6 +1,6 @@
 // The benchmark program: the proved library beside other programs and a SAT solver, on the same sets and windows in one run.
 // `bench [SECONDS] [FOLDER]` prints the tables and writes FOLDER/benchmarks.md with its plots; SECONDS limits the CPU time of each measurement.
-// `bench part NAME SECONDS` prints one section (sets, windows, degenerate or stops) and writes nothing; `bench part stops SECONDS FOLDER` writes the section's plot.
+// `bench part NAME SECONDS` prints one section (sets, windows, degenerate, stops or limits) and writes nothing; `bench part NAME SECONDS FOLDER`, for stops or limits, also writes the section's plots.
 // FIRST_VERSION may name the benchmark program of an earlier commit, built with SEEDS_LIBRARY: the folder of the static library that rust/build.rs links.
 // `bench quick` runs a few small rows, writes nothing and ends with `N passed, M failed`.
 // It is built with the workspace's profile `measured`; a build that checks for overflow measures nothing.
@@ -16,6 +16,10 @@ mod enumeration;
 mod fast;
 mod fewest;
 mod library;
+mod limits;
+mod limits_plots;
+mod limits_section;
+mod limits_summary;
 mod marked;
 mod measure;
 mod one;
@@ -58,7 +62,7 @@ fn measured(limit: &str, run: impl Fn(f64) -> Result<(), String>) -> ExitCode {
         ),
         Ok(limit) if limit >= 1.0 => run(limit),
         _ => Err(
-            "bench [SECONDS] [FOLDER], at least 1 second; bench part NAME SECONDS; or bench quick"
+            "bench [SECONDS] [FOLDER], at least 1 second; bench part NAME SECONDS [FOLDER]; or bench quick"
                 .to_string(),
         ),
     };
@@ -78,8 +82,8 @@ fn main() -> ExitCode {
         ["one", column, limit, least] => one::run(column, limit, least),
         ["quick"] => quick::run(),
         ["part", name, limit] => measured(limit, |limit| whole::part(name, limit)),
-        ["part", "stops", limit, folder] => {
-            measured(limit, |limit| whole::stops_part(limit, folder))
+        ["part", name, limit, folder] => {
+            measured(limit, |limit| whole::drawn_part(name, limit, folder))
         }
         [] => measured("10", |limit| whole::run(limit, "docs")),
         [limit] => measured(limit, |limit| whole::run(limit, "docs")),

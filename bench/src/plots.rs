@@ -1,4 +1,4 @@
-// The plots of the run: cost against cells, stop positions, slices and density; of stop slices against density.
+// The plots of the run: cost against cells, stop positions, slices and density; of stop slices against density. Those of window limits are in limits_plots.rs.
 
 use crate::columns::Column;
 use crate::measure::Time;
@@ -7,7 +7,7 @@ use crate::sets::Kind;
 use crate::sets_section::SetRow;
 use crate::stops::PERCENT;
 use crate::stops_section::StopRow;
-use crate::svg::{Plot, Point, Series};
+use crate::svg::{Plot, Point, Series, SECONDS};
 use crate::windows_section::WindowRow;
 
 /// The columns that are drawn, and their colours.
@@ -88,6 +88,7 @@ fn against_cells(rows: &[WindowRow]) -> Plot {
         title: "One window of x, by the cells of the register".to_string(),
         more: "one slice more than the longest window for which a seed was found".to_string(),
         x_label: "cells",
+        y_label: SECONDS,
         ticks: vec![24.0, 28.0, 32.0, 36.0, 40.0],
         logarithmic: false,
         series,
@@ -106,6 +107,7 @@ fn against_positions(rows: &[WindowRow]) -> Plot {
         title: "One window of x, by the specified positions of the stop slice".to_string(),
         more: "one slice more than the longest window for which a seed was found, or 256 slices where they have one".to_string(),
         x_label: "specified positions of the stop slice",
+        y_label: SECONDS,
         ticks: vec![1.0, 2.0, 3.0, 4.0, 5.0, 6.0],
         logarithmic: false,
         series,
@@ -123,6 +125,7 @@ fn against_slices(rows: &[SetRow]) -> Plot {
         title: "One set, by its number of slices".to_string(),
         more: "64 cells, 64 chains, 1 % and 5 % of the bits specified, spread".to_string(),
         x_label: "slices of the set",
+        y_label: SECONDS,
         ticks: vec![256.0, 512.0, 1_024.0, 2_048.0],
         logarithmic: true,
         series,
@@ -140,6 +143,7 @@ fn against_density(rows: &[SetRow]) -> Plot {
         title: "One set, by the part of its bits that is specified".to_string(),
         more: "64 cells, 64 and 32 chains, 1,024 slices, spread".to_string(),
         x_label: "% specified",
+        y_label: SECONDS,
         ticks: vec![1.0, 2.0, 5.0, 10.0, 30.0],
         logarithmic: true,
         series,
@@ -147,8 +151,8 @@ fn against_density(rows: &[SetRow]) -> Plot {
 }
 
 /// The plot of the section on stop slices, and its name.
-pub fn of_stops(rows: &[StopRow]) -> (&'static str, Plot) {
-    ("benchmarks-stops.svg", stops_against_density(rows))
+pub fn of_stops(rows: &[StopRow]) -> Vec<(&'static str, Plot)> {
+    vec![("benchmarks-stops.svg", stops_against_density(rows))]
 }
 
 fn stops_against_density(rows: &[StopRow]) -> Plot {
@@ -160,19 +164,19 @@ fn stops_against_density(rows: &[StopRow]) -> Plot {
         title: "One stop slice, by the part of the set's bits that is specified".to_string(),
         more: "64 chains, 2,048 random slices".to_string(),
         x_label: "% specified",
+        y_label: SECONDS,
         ticks: PERCENT.map(|percent| percent as f64).into(),
         logarithmic: true,
         series: curves(&places, "", false),
     }
 }
 
-/// All plots, with the names of their files.
-pub fn all(sets: &[SetRow], windows: &[WindowRow], stops: &[StopRow]) -> [(&'static str, Plot); 5] {
-    [
+/// The plots of the sections on sets and windows, and their names.
+pub fn of_sets_and_windows(sets: &[SetRow], windows: &[WindowRow]) -> Vec<(&'static str, Plot)> {
+    vec![
         ("benchmarks-cells.svg", against_cells(windows)),
         ("benchmarks-positions.svg", against_positions(windows)),
         ("benchmarks-slices.svg", against_slices(sets)),
         ("benchmarks-density.svg", against_density(sets)),
-        of_stops(stops),
     ]
 }

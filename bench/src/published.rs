@@ -4,12 +4,11 @@
 // Where 004 is open or 01 says otherwise:
 // - 004 picks the next cube; here the slices stay in the order of the set, as in 01.
 // - A slice compatible with the stop gets one of its x set at once, as 004 did it. Which one is open: here the leftmost with which the slice and the stop behind it can be met.
-// - 004's last seed needs no stop; in 01, and here, every seed ends in it. A seed has at most 256 slices, as in 01.
+// - 004's last seed needs no stop; in 01, and here, every seed ends in it. A seed has at most as many slices as the window limit of the case: 256, as in 01, in all but one row of `bench quick`.
 // - The seed is any solution; here the lowest.
 
 use crate::case::Case;
 use crate::space::{rows, Space};
-use second::LONGEST_WINDOW;
 
 /// The place of a slice that the procedure cannot encode, though it stands first in its window.
 #[derive(Debug, PartialEq)]
@@ -59,7 +58,8 @@ impl Procedure<'_> {
     fn window(&self, start: usize) -> (usize, u64) {
         let mut space = Space::all(self.case.cells);
         let (mut length, mut seed) = (0, 0);
-        let most = LONGEST_WINDOW.min(self.case.specified.len() - start);
+        let left = self.case.specified.len() - start;
+        let most = self.case.window_limit.min(left);
         while length < most {
             let Some((next, closed)) = self.taken(&space, start + length, length) else {
                 break;
@@ -77,6 +77,7 @@ fn covers(case: &Case, start: usize, length: usize, seed: u64) -> bool {
     second::covers(
         case.cells as u64,
         case.taps,
+        case.window_limit as u64,
         &case.masks,
         case.stop.0,
         case.stop.1,
@@ -88,7 +89,7 @@ fn covers(case: &Case, start: usize, length: usize, seed: u64) -> bool {
 
 /// The number of seeds for a set. An outer error is a window that its seed does not cover.
 pub fn seeds(case: &Case) -> Result<Result<usize, Stuck>, String> {
-    let table = rows(case, LONGEST_WINDOW);
+    let table = rows(case, case.window_limit);
     let procedure = Procedure { case, table };
     let (mut count, mut start) = (0, 0);
     while start < case.specified.len() {

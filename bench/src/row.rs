@@ -1,4 +1,4 @@
-// One row of a table: a case measured in every column, by turns, and the answers compared.
+// One row of a table: a case measured in every column, by turns, and the answers compared; or several cases by turns.
 
 use crate::answer::Answer;
 use crate::case::Case;
@@ -105,23 +105,55 @@ impl Shared {
     }
 }
 
-/// Measures a case, without the columns that are left out. A difference of answers is an error.
-pub fn row(case: &Case, plan: &Plan, left: &[Column]) -> Result<(Times, Option<Answer>), String> {
-    let text = case.text();
-    let mut times = Times::new(plan, left);
-    let mut shared = Shared(None);
-    for round in 0..plan.rounds {
+/// A case in the course of its measurement.
+struct Turns {
+    text: String,
+    times: Times,
+    shared: Shared,
+}
+
+impl Turns {
+    /// One round: the columns that are due, one after another.
+    fn round(&mut self, plan: &Plan, round: usize) -> Result<(), String> {
         for &column in &plan.columns {
-            if !times.due(column, round) {
+            if !self.times.due(column, round) {
                 continue;
             }
-            let measured = measure(column, &text, plan.limits)?;
-            times.note(column, measured.time);
+            let measured = measure(column, &self.text, plan.limits)?;
+            self.times.note(column, measured.time);
             if let Some(answer) = measured.answer {
-                shared.compare(column, answer)?;
+                self.shared.compare(column, answer)?;
             }
-            times.decide(measured.decided);
+            self.times.decide(measured.decided);
+        }
+        Ok(())
+    }
+}
+
+/// What is known of a case after its measurement: the times, and the answer that the columns share.
+pub type Row = (Times, Option<Answer>);
+
+/// Measures a case, without the columns that are left out. A difference of answers is an error.
+pub fn row(case: &Case, plan: &Plan, left: &[Column]) -> Result<Row, String> {
+    let [row] = rows([case], plan, left)?;
+    Ok(row)
+}
+
+/// Measures cases by turns: each round takes all of them.
+pub fn rows<const N: usize>(
+    cases: [&Case; N],
+    plan: &Plan,
+    left: &[Column],
+) -> Result<[Row; N], String> {
+    let mut all = cases.map(|case| Turns {
+        text: case.text(),
+        times: Times::new(plan, left),
+        shared: Shared(None),
+    });
+    for round in 0..plan.rounds {
+        for turns in &mut all {
+            turns.round(plan, round)?;
         }
     }
-    Ok((times, shared.0.map(|(_, answer)| answer)))
+    Ok(all.map(|turns| (turns.times, turns.shared.0.map(|(_, answer)| answer))))
 }

@@ -2,6 +2,7 @@
 
 use crate::case::{Ask, Case};
 use crate::random::Random;
+use seeds::LONGEST_WINDOW;
 
 pub const TAPS: u64 = 0xd800_0000_0000_0000;
 
@@ -22,7 +23,7 @@ const PERCENT: [u64; 5] = [30, 10, 5, 2, 1];
 const LENGTHS: [usize; 3] = [256, 512, 2_048];
 
 /// All sets of random slices, in the order in which they are measured.
-pub fn kinds() -> Vec<Kind> {
+fn kinds() -> Vec<Kind> {
     let mut kinds = Vec::new();
     for clustered in [false, true] {
         for chains in CHAINS {
@@ -49,6 +50,16 @@ pub fn kinds() -> Vec<Kind> {
     kinds
 }
 
+/// All sets, in the order in which they are measured; without a kind, the set of full slices.
+pub fn all() -> impl Iterator<Item = Option<Kind>> {
+    kinds().into_iter().map(Some).chain([None])
+}
+
+/// The set of a kind, or that of full slices.
+pub fn case(kind: Option<Kind>) -> Result<Case, String> {
+    kind.map_or_else(|| Ok(full_slices()), set)
+}
+
 /// How dense a slice is, in hundredths. In a clustered set, runs of 8 slices with four times the density stand before 24 slices of x.
 fn density(kind: Kind, place: usize) -> u64 {
     match (kind.clustered, place % 32) {
@@ -66,6 +77,7 @@ pub fn set(kind: Kind) -> Result<Case, String> {
         ask: Ask::Set,
         cells: 64,
         taps: TAPS,
+        window_limit: LONGEST_WINDOW,
         masks: (0..kind.chains).map(|_| random.word().max(1)).collect(),
         stop: (0, 0),
         specified: Vec::new(),
@@ -100,6 +112,7 @@ pub fn full_slices() -> Case {
         ask: Ask::Set,
         cells: 64,
         taps: TAPS,
+        window_limit: LONGEST_WINDOW,
         masks,
         stop: (0, 0),
         specified: vec![(1 << 57) - 1; 300],
@@ -121,6 +134,7 @@ fn cut_by(case: &Case) -> bool {
         && second::encode_set(
             64,
             case.taps,
+            case.window_limit as u64,
             &case.masks,
             positions,
             stop,

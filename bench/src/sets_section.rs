@@ -6,7 +6,7 @@ use crate::columns::Column;
 use crate::published::{self, Stuck};
 use crate::report::Report;
 use crate::row::{row, Plan, Times};
-use crate::sets::{full_slices, kinds, set, Kind};
+use crate::sets::{all, case, Kind};
 use crate::table::Table;
 
 /// A set that was measured; without a kind, it is the set of full slices.
@@ -60,7 +60,7 @@ fn spread(kind: Kind) -> &'static str {
 }
 
 /// What a set is called in sentences.
-fn name(kind: Option<Kind>) -> String {
+pub fn name(kind: Option<Kind>) -> String {
     match kind {
         Some(kind) => format!(
             "{} chains, {} % {}, {} slices",
@@ -73,7 +73,8 @@ fn name(kind: Option<Kind>) -> String {
     }
 }
 
-fn labels(kind: Option<Kind>, case: &Case) -> Vec<String> {
+/// What a table says of a set before its answer.
+pub fn labels(kind: Option<Kind>, case: &Case) -> Vec<String> {
     let (percent, how) = match kind {
         Some(kind) => (kind.percent, spread(kind)),
         None => (100, "a run"),
@@ -107,7 +108,7 @@ pub fn measure(
     kind: Option<Kind>,
     rows: &[SetRow],
 ) -> Result<SetRow, String> {
-    let case = kind.map_or_else(|| Ok(full_slices()), set)?;
+    let case = case(kind)?;
     let left = match kind {
         Some(kind) if stopped_before(rows, kind) => vec![Column::Enumeration],
         _ => Vec::new(),
@@ -151,8 +152,7 @@ pub fn head(report: &mut Report, plan: &Plan) {
 pub fn section(report: &mut Report, plan: &Plan) -> Result<Vec<SetRow>, String> {
     head(report, plan);
     let mut rows = Vec::new();
-    let full = [None];
-    for kind in kinds().into_iter().map(Some).chain(full) {
+    for kind in all() {
         let row = measure(report, plan, kind, &rows)?;
         rows.push(row);
     }

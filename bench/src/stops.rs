@@ -3,6 +3,7 @@
 use crate::case::{Ask, Case};
 use crate::random::Random;
 use crate::sets::TAPS;
+use seeds::LONGEST_WINDOW;
 
 /// A set, by what its slices are.
 pub struct StopSet {
@@ -21,6 +22,7 @@ fn case(chains: usize, specified: Vec<u64>, bits: Vec<u64>) -> Case {
         ask: Ask::Stop,
         cells: 64,
         taps: TAPS,
+        window_limit: LONGEST_WINDOW,
         masks: vec![1; chains],
         stop: (0, 0),
         specified,

@@ -9,6 +9,9 @@ const RIGHT: f64 = 256.0;
 const TOP: f64 = 64.0;
 const BOTTOM: f64 = 60.0;
 
+/// What the y axis of most plots is.
+pub const SECONDS: &str = "CPU seconds of one call";
+
 /// A point; one that was stopped at the limit is drawn hollow.
 #[derive(Clone, Copy)]
 pub struct Point {
@@ -38,6 +41,7 @@ pub struct Plot {
     /// The second line of the title.
     pub more: String,
     pub x_label: &'static str,
+    pub y_label: &'static str,
     pub ticks: Vec<f64>,
     pub logarithmic: bool,
     pub series: Vec<Series>,
@@ -134,7 +138,7 @@ impl Plot {
         );
         let (x, y) = (22.0, (TOP + bottom) / 2.0);
         let turned = format!("text-anchor=\"middle\" transform=\"rotate(-90 {x} {y})\"");
-        words(to, x, y, &turned, "CPU seconds of one call");
+        words(to, x, y, &turned, self.y_label);
     }
 
     fn run(&self, to: &mut String, run: &[Point], stroke: &str) {

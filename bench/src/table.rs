@@ -21,7 +21,7 @@ pub fn digits(number: f64) -> String {
 }
 
 /// A time: seconds, what it was stopped after, or a dash where it was left out.
-fn seconds(time: Time) -> String {
+pub fn seconds(time: Time) -> String {
     match time {
         Time::Took(seconds) => digits(seconds),
         Time::Stopped(limit) => format!("> {limit}"),
@@ -30,7 +30,7 @@ fn seconds(time: Time) -> String {
 }
 
 /// A ratio of two times, or what is known of it.
-fn ratio(over: Time, under: Time) -> String {
+pub fn ratio(over: Time, under: Time) -> String {
     match (over, under) {
         (Time::Took(over), Time::Took(under)) => digits(over / under),
         (Time::Stopped(over), Time::Took(under)) => format!("> {}", digits(over / under)),
@@ -46,8 +46,14 @@ pub struct Table<'a> {
     pub notes: &'a [&'a str],
 }
 
-fn line(entries: &[String]) -> String {
+/// One line of a table.
+pub fn line(entries: &[String]) -> String {
     format!("| {} |", entries.join(" | "))
+}
+
+/// The line below a table's first.
+pub fn rule(entries: usize) -> String {
+    "|---".repeat(entries) + "|"
 }
 
 impl Table<'_> {
@@ -70,8 +76,7 @@ impl Table<'_> {
         let ratios = self.ratios();
         entries.extend(ratios.map(|(over, under)| format!("{} / {}", over.name(), under.name())));
         entries.extend(self.notes.iter().map(|note| note.to_string()));
-        let rule = "|---".repeat(entries.len());
-        format!("{}\n{rule}|", line(&entries))
+        format!("{}\n{}", line(&entries), rule(entries.len()))
     }
 
     pub fn row(&self, labels: &[String], times: &Times, notes: &[String]) -> String {

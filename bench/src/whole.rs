@@ -5,12 +5,15 @@ use crate::case::Ask;
 use crate::columns::Column;
 use crate::degenerate_section;
 use crate::fewest;
+use crate::limits_plots;
+use crate::limits_section;
 use crate::measure::Limits;
 use crate::plots;
 use crate::report::Report;
 use crate::row::{Plan, SHORT};
 use crate::sets_section;
 use crate::stops_section;
+use crate::svg::Plot;
 use crate::table::digits;
 use crate::windows_section;
 use std::path::Path;
@@ -59,6 +62,11 @@ fn write(path: &Path, text: &str) -> Result<(), String> {
     std::fs::write(path, text).map_err(|e| format!("{} is not written: {e}", path.display()))
 }
 
+fn draw(folder: &Path, plots: &[(&str, Plot)]) -> Result<(), String> {
+    let each = |(name, plot): &(&str, Plot)| write(&folder.join(name), &plot.svg());
+    plots.iter().try_for_each(each)
+}
+
 pub fn run(limit: f64, folder: &str) -> Result<(), String> {
     let begun = Instant::now();
     let mut report = Report::new();
@@ -67,24 +75,32 @@ pub fn run(limit: f64, folder: &str) -> Result<(), String> {
     let windows = windows_section::section(&mut report, &plan(Ask::Window, limit))?;
     degenerate_section::section(&mut report, &plan(Ask::Window, limit))?;
     let stops = stops_section::section(&mut report, &plan(Ask::Stop, limit))?;
+    let limits = limits_section::section(&mut report, &plan(Ask::Set, limit))?;
     fewest::section(&mut report, &sets);
     let folder = Path::new(folder);
     report.paragraph("## Plots");
-    for (name, plot) in plots::all(&sets, &windows, &stops) {
+    let mut drawn = plots::of_sets_and_windows(&sets, &windows);
+    drawn.append(&mut plots::of_stops(&stops));
+    drawn.append(&mut limits_plots::all(&limits));
+    for (name, plot) in &drawn {
         report.paragraph(&format!("![{}]({name})", plot.title));
-        write(&folder.join(name), &plot.svg())?;
     }
+    draw(folder, &drawn)?;
     bars::section(&mut report, &sets, &windows);
     let minutes = digits(begun.elapsed().as_secs_f64() / 60.0);
     report.paragraph(&format!("The run took {minutes} minutes."));
     write(&folder.join("benchmarks.md"), report.text())
 }
 
-/// The section on stop slices alone, printed, with its plot.
-pub fn stops_part(limit: f64, folder: &str) -> Result<(), String> {
-    let rows = stops_section::section(&mut Report::new(), &plan(Ask::Stop, limit))?;
-    let (name, plot) = plots::of_stops(&rows);
-    write(&Path::new(folder).join(name), &plot.svg())
+/// The section on stop slices or that on window limits alone, printed, with its plots.
+pub fn drawn_part(name: &str, limit: f64, folder: &str) -> Result<(), String> {
+    let report = &mut Report::new();
+    let drawn = match name {
+        "stops" => plots::of_stops(&stops_section::section(report, &plan(Ask::Stop, limit))?),
+        "limits" => limits_plots::all(&limits_section::section(report, &plan(Ask::Set, limit))?),
+        _ => return Err(format!("{name} has no plots of its own: stops or limits")),
+    };
+    draw(Path::new(folder), &drawn)
 }
 
 /// One section alone, printed and not written.
@@ -104,9 +120,12 @@ pub fn part(name: &str, limit: f64) -> Result<(), String> {
         "stops" => {
             stops_section::section(report, &plan(Ask::Stop, limit))?;
         }
+        "limits" => {
+            limits_section::section(report, &plan(Ask::Set, limit))?;
+        }
         _ => {
             return Err(format!(
-                "{name} is no section: sets, windows, degenerate or stops"
+                "{name} is no section: sets, windows, degenerate, stops or limits"
             ))
         }
     }

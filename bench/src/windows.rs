@@ -6,7 +6,7 @@ use crate::columns::Column;
 use crate::measure::{measure, Limits};
 use crate::random::Random;
 use crate::sets::{some_positions, TAPS};
-use second::LONGEST_WINDOW;
+use seeds::LONGEST_WINDOW;
 
 /// Registers of full period: cells, taps and chains.
 pub const REGISTERS: [(usize, u64, usize); 5] = [
@@ -30,6 +30,7 @@ pub fn window(register: (usize, u64, usize), positions: u32, length: usize) -> C
         ask: Ask::Window,
         cells,
         taps,
+        window_limit: LONGEST_WINDOW,
         masks,
         stop: (positions, random.word() & positions),
         specified: vec![0; length],
