@@ -102,14 +102,6 @@ fn main() -> ExitCode {
         ["sample", root, file] => return sample(root, file),
         ["texts", count] => return texts_alone(count),
         ["load", count] => return load::run(count),
-        ["TEMP"] => {
-            let mut report = Report::new();
-            library_limits(&mut report);
-            library_texts(&mut report, 100);
-            program_texts(&mut report, 100);
-            report.end();
-            return ExitCode::SUCCESS;
-        }
         _ => {}
     }
     let mut report = Report::new();

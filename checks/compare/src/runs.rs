@@ -88,8 +88,7 @@ pub fn pool_of(random: &mut Random, mut call: Call) -> Pool {
     Pool::new(call, &seeds)
 }
 
-/// A register whose chains each read a cell of their own, and its states from the stop back to 257 steps before it.
-/// By the second program the stop is first shown in slice 256 of the last but one, and in none of slices 0 to 256 of the last.
+/// A register whose chains each read a cell of their own, and its states from the stop back to 257 steps before it. Only the first shows the stop.
 pub fn walk(random: &mut Random, cells: usize) -> (Call, Vec<u64>) {
     let mut call = lawful(random, 1, 1, 1);
     call.cells = cells;
@@ -106,7 +105,8 @@ pub fn walk(random: &mut Random, cells: usize) -> (Call, Vec<u64>) {
         states.reverse();
         let all = u64::MAX >> (64 - cells);
         call.stop = (all, second::slice(&call.masks, state));
-        if alone(&call, states[256]) == Ok(256) && alone(&call, states[257]) == Err(12) {
+        // each chain reads a cell, so no other state has that slice
+        if !states[1..].contains(&state) {
             return (call, states);
         }
     }

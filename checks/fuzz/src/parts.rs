@@ -24,7 +24,6 @@ const ANY_SLICES: u8 = 8;
 const ANY_LENGTHS: u8 = 16;
 const ANY_SEEDS: u8 = 32;
 const REPEATED: u8 = 64;
-/// The limit of windows comes from the input; otherwise it is document 01's 256.
 const OWN_LIMIT: u8 = 128;
 
 /// The bytes that are left of an input.
@@ -88,8 +87,11 @@ fn cells(bytes: &mut Bytes) -> usize {
     }
 }
 
-/// A limit of windows: mostly a small one, 0 too, or one around 256, or any, or one far out of range.
-fn limit(bytes: &mut Bytes) -> usize {
+/// A limit of windows: document 01's 256, or as a flag says mostly a small one, 0 too, one around 256, any, or one far out of range.
+fn limit(bytes: &mut Bytes, flags: u8) -> usize {
+    if flags & OWN_LIMIT == 0 {
+        return 256;
+    }
     match bytes.byte() {
         byte @ 0..=199 => usize::from(byte) % 20,
         byte @ 200..=229 => 250 + usize::from(byte) % 10,
@@ -115,10 +117,7 @@ impl Parts {
             0 => bytes.word(width(cells)) & held | last,
             _ => bytes.word(8),
         };
-        let limit = match flags & OWN_LIMIT {
-            0 => 256,
-            _ => limit(bytes),
-        };
+        let limit = limit(bytes, flags);
         let chains = usize::from(bytes.byte()) % 67;
         let mask = |bytes: &mut Bytes| match flags & ANY_MASKS {
             0 => (bytes.word(width(cells)) & held).max(1),

@@ -62,7 +62,7 @@ pub fn free() -> Outcome {
     let mut count = 0;
     for limit in LAWFUL {
         let mut met = Met::default();
-        for cells in [16, 33, 64] {
+        for cells in [16, [33, 64][limit % 2]] {
             count += free_at(&mut random, cells, limit, &mut met)?;
         }
         met.sets.require(&[
@@ -93,8 +93,7 @@ fn compare_all(random: &mut Random, mut call: Call, met: &mut Met) -> Outcome {
 fn tries_free(cells: usize, limit: usize) -> bool {
     match cells {
         ..8 => limit <= 40 || limit.is_multiple_of(36),
-        8..16 => limit <= 40 || limit.is_multiple_of(4),
-        _ => limit <= 40 || limit.is_multiple_of(2),
+        _ => limit <= 40 || limit.is_multiple_of(4),
     }
 }
 

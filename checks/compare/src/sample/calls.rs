@@ -1,0 +1,187 @@
+// Windows, sets, cubes and lists: the second program's answers, with document 01's limit of windows and with others.
+
+use super::table::{cause, cubes_outcome, list, outcome, slice, Table};
+use crate::call::{Call, DEFAULT_LIMIT};
+use crate::inputs::{damage_lightly, lawful, thin};
+use crate::random::Random;
+use crate::runs::alone;
+
+/// The settings and the masks. Where no limit is given they are document 01's.
+fn settings(call: &Call) -> String {
+    let (cells, taps, limit) = (call.cells, call.taps, call.limit);
+    let settings = match limit {
+        DEFAULT_LIMIT => format!("base {cells} {taps}"),
+        _ => format!("record {{ cells = {cells}; taps = {taps}; limit = {limit} }}"),
+    };
+    format!("({settings}) {}", list(&call.masks))
+}
+
+/// Which limits the calls of a table have.
+#[derive(Clone, Copy, PartialEq)]
+pub enum Limits {
+    /// Document 01's 256, which no text names.
+    Default,
+    /// Small ones, and now and then 0, 256 or 257; each text names its own.
+    Any,
+}
+
+impl Limits {
+    pub fn one(self, random: &mut Random) -> usize {
+        match self {
+            Limits::Default => DEFAULT_LIMIT,
+            Limits::Any => match random.below(12) {
+                0 => 0,
+                1 => 256,
+                2 => 257,
+                _ => random.between(1, 4),
+            },
+        }
+    }
+
+    /// The name of a table of a kind.
+    pub fn name(self, kind: &str) -> String {
+        match self {
+            Limits::Default => kind.into(),
+            Limits::Any => format!("limited-{kind}"),
+        }
+    }
+}
+
+/// A small call, whole or damaged.
+fn small(random: &mut Random, limits: Limits) -> Call {
+    let mut call = lawful(random, 5, 3, 6);
+    call.limit = limits.one(random);
+    if random.one_in(2) {
+        thin(random, &mut call);
+    }
+    if random.one_in(4) {
+        damage_lightly(random, &mut call);
+    }
+    call
+}
+
+pub fn windows(random: &mut Random, limits: Limits, count: usize) -> Table {
+    let rows = (0..count).map(|_| {
+        let mut call = small(random, limits);
+        // of windows above the limit, most by one slice
+        if limits == Limits::Any && !random.one_in(8) {
+            let most = random.between(1, call.limit + 1);
+            call.specified.truncate(most);
+            call.bits.truncate(most);
+        }
+        let told = match call.window_seed() {
+            Ok(state) => format!("seed.Lowest {state}"),
+            Err(refused) => format!("seed.Refused {}", cause(refused)),
+        };
+        let lists = format!("{} {}", list(&call.specified), list(&call.bits));
+        (
+            format!(
+                "windowSeed {} {} {lists}",
+                settings(&call),
+                slice(call.stop)
+            ),
+            told,
+        )
+    });
+    Table {
+        name: limits.name("windows"),
+        kind: "Seed",
+        rows: rows.collect(),
+    }
+}
+
+pub fn sets(random: &mut Random, limits: Limits, count: usize) -> Table {
+    let rows = (0..count).map(|_| {
+        let call = small(random, limits);
+        let lent = vec![77; random.between(0, 4)];
+        let mut out = lent.clone();
+        let answer = call.encode_set(&mut out);
+        let lists = format!(
+            "{} {} {}",
+            list(&call.specified),
+            list(&call.bits),
+            list(&lent)
+        );
+        (
+            format!("encodeSet {} {} {lists}", settings(&call), slice(call.stop)),
+            outcome(answer, &out),
+        )
+    });
+    Table {
+        name: limits.name("sets"),
+        kind: "Outcome",
+        rows: rows.collect(),
+    }
+}
+
+pub fn cubes(random: &mut Random, limits: Limits, count: usize) -> Table {
+    let rows = (0..count).map(|_| {
+        let mut call = small(random, limits);
+        if random.one_in(8) {
+            call.depth = random.between(0, 8);
+        }
+        let lent = vec![77; random.between(0, 4)];
+        let mut out = lent.clone();
+        let answer = call.encode_cubes(&mut out);
+        let set = format!("{} {}", list(&call.specified), list(&call.bits));
+        let depth = call.depth;
+        (
+            format!(
+                "encodeCubes {} {depth} {set} {}",
+                settings(&call),
+                list(&lent)
+            ),
+            cubes_outcome(answer, &out),
+        )
+    });
+    Table {
+        name: limits.name("cubes"),
+        kind: "CubesOutcome",
+        rows: rows.collect(),
+    }
+}
+
+/// The call gets up to four seeds that run into its stop slice within the limit, and their total, where a small register has any.
+fn run_in(random: &mut Random, call: &mut Call) {
+    if call.cells > 5 {
+        return;
+    }
+    let length = |seed| Some((seed, alone(call, seed).ok()?));
+    let running: Vec<(u64, usize)> = (0..1 << call.cells).filter_map(length).collect();
+    if running.is_empty() {
+        return;
+    }
+    (call.seeds, call.slices) = (Vec::new(), 0);
+    for _ in 0..random.between(1, 4) {
+        let (seed, slices) = running[random.between(0, running.len() - 1)];
+        call.seeds.push(seed);
+        call.slices += slices;
+    }
+}
+
+pub fn lists(random: &mut Random, limits: Limits, count: usize) -> Table {
+    let rows = (0..count).map(|_| {
+        let mut call = small(random, limits);
+        match random.below(4) {
+            0 => call.slices = random.between(1, 12),
+            1 | 2 => run_in(random, &mut call),
+            _ => {}
+        }
+        if random.one_in(6) {
+            call.seeds.push(random.bits(6));
+        }
+        let lent = vec![77; random.between(0, 14)];
+        let mut out = lent.clone();
+        let answer = call.expand(&call.seeds, &mut out);
+        let rest = format!("{} {} {}", call.slices, list(&call.seeds), list(&lent));
+        (
+            format!("expandList {} {} {rest}", settings(&call), slice(call.stop)),
+            outcome(answer, &out),
+        )
+    });
+    Table {
+        name: limits.name("lists"),
+        kind: "Outcome",
+        rows: rows.collect(),
+    }
+}
