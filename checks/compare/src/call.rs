@@ -2,8 +2,8 @@
 
 use second::{BruteSet, Refused};
 
-/// The limit of a window where none is given: document 01's 256.
-pub const DEFAULT_LIMIT: usize = second::DEFAULT_LIMIT as usize;
+/// The limit of windows where none is given: document 01's.
+pub const DEFAULT_LIMIT: usize = 256;
 
 /// What a call hands in; each kind of call takes the parts that it has.
 #[derive(Clone, Debug)]

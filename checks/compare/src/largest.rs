@@ -51,7 +51,7 @@ fn one_by_one(random: &mut Random, chains: usize, count: usize) -> Call {
 fn accepted(random: &mut Random) -> Result<(Vec<u8>, Vec<u8>), String> {
     for _ in 0..100 {
         let call = one_by_one(random, 64, 2_048);
-        let with_line = |lines| limited(lines, DEFAULT_LIMIT).concat();
+        let with_line = |lines| limited(lines, 256).concat();
         let (sheet, list) = (with_line(sheet(&call)), with_line(list(&call)));
         if second::encode_text(&sheet) != list {
             continue;

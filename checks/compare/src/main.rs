@@ -45,7 +45,7 @@ use std::io::Write;
 use std::path::Path;
 use std::process::{Command, ExitCode, Stdio};
 use window_limit::texts::{by_library, by_programs};
-use window_limit::{every, few, growing, lines, lists, outside};
+use window_limit::{damaged, every, few, growing, lines, lists, outside};
 
 /// Runs the second program, which is built beside this one, with a standard input.
 fn second_program(word: &str, input: &str) -> Result<String, String> {
@@ -174,6 +174,7 @@ fn library_encodes(report: &mut Report) {
 /// The library under limits of windows.
 fn library_limits(report: &mut Report) {
     report.case("library: limits outside 1 to 256", outside::answers());
+    report.case("library: damaged calls at any limit", damaged::answers());
     report.case("library: every limit, slices of x", every::free());
     report.case("library: every limit, delivered sets", every::delivered());
     report.case("library: every limit, packed cubes", every::packed_cubes());

@@ -55,13 +55,13 @@ const SHEETS: [&str; 26] = [
     "6 with a window line",
     "8",
     "8 with a window line",
-    "13 at depth= with a window line",
     "13 at cells=",
     "13 at taps=",
     "13 at chains=",
     "13 at chain=",
     "13 at window=",
     "13 at depth=",
+    "13 at depth= with a window line",
     "13 at slice=",
     "13 at stop=",
     "13 at seed=",
@@ -86,7 +86,6 @@ const LISTS: [&str; 29] = [
     "11 with a window line",
     "12",
     "12 with a window line",
-    "14 with a window line",
     "13 at cells=",
     "13 at taps=",
     "13 at chains=",
@@ -100,6 +99,7 @@ const LISTS: [&str; 29] = [
     "13 at another line",
     "13 at the end",
     "14",
+    "14 with a window line",
 ];
 
 /// Fails unless each cause that a text can give was met, of a line with each key that can have it.

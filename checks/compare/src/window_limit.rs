@@ -1,5 +1,6 @@
 // Document 02, R-3: the limit of windows. The library and the two programs against the second program at every limit from 1 to 256 and outside, with numbers and with texts.
 
+pub mod damaged;
 mod delivery;
 pub mod every;
 pub mod few;

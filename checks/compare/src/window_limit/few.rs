@@ -10,7 +10,7 @@ use crate::report::{same, Outcome};
 use crate::spares::{all_slices, numbered};
 use crate::windows;
 
-/// Notes what the limit does to a set that brute force has cut: windows as long as the limit, or a cutting that a larger limit alone allows.
+/// Notes where a set can be cut with a larger limit alone, and where it takes more seeds than with a larger one.
 fn note(call: &Call, known: &Known, met: &mut Met) -> Result<(), String> {
     let free = brute(&Call {
         limit: 256,

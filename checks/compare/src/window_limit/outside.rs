@@ -2,17 +2,9 @@
 
 use crate::bench;
 use crate::call::{refused, Call};
-use crate::encodes::{compare_cubes, compare_set, Met};
-use crate::expands;
-use crate::inputs::damage_set;
-use crate::leaves::{self, sliced, stepped};
+use crate::leaves::{sliced, stepped};
 use crate::library::{self, Answer, CubesAnswer, Like, SeedAnswer, SliceAnswer, StateAnswer};
-use crate::notes::{holding, Kind};
-use crate::random::Random;
 use crate::report::{same, Outcome};
-use crate::seen::Seen;
-use crate::windows;
-use second::Refused;
 
 /// Limits outside, also those whose last 8, 16 or 32 bits are a lawful limit.
 pub const OUTSIDE: [usize; 14] = [
@@ -40,6 +32,18 @@ fn untouched<A>(room: usize, call: impl FnOnce(&mut [u64]) -> A) -> Result<A, St
     Ok(answer)
 }
 
+/// The second program's calls, all refused by one number with 0.
+fn all_told(call: &Call, number: u64) -> Outcome {
+    let told = [
+        call.window_seed().map(|_| 0),
+        call.encode_set(&mut []),
+        call.encode_cubes(&mut []).map(|_| 0),
+        call.expand(&call.seeds, &mut []),
+    ];
+    same("the second program", told, [refused(number, 0); 4])?;
+    Ok(4)
+}
+
 /// The eight calls that judge the limit, all refused by one number with 0, with so many entries lent.
 fn all_refused(call: &Call, room: usize, number: u64) -> Outcome {
     let checks = [
@@ -60,7 +64,7 @@ fn all_refused(call: &Call, room: usize, number: u64) -> Outcome {
     Ok(8)
 }
 
-/// A fault of a call, and the number by which all eight calls refuse it, whatever the limit.
+/// A fault of a call, and the number by which all eight calls refuse it at a limit outside.
 type Fault = (fn(&mut Call), u64);
 
 /// Faults that come before the limit, none, and faults that come after it.
@@ -79,8 +83,8 @@ const FAULTS: [Fault; 12] = [
     (|call| call.bits.truncate(3), 3),
 ];
 
-/// A step and a slice of the call's state, at any limit.
-fn unjudged(call: &Call, state: u64) -> Outcome {
+/// A step and a slice of a state, at any limit.
+pub fn unjudged(call: &Call, state: u64) -> Outcome {
     let ours = library::step(call.settings(), state);
     same("the step", ours, StateAnswer::like(stepped(call, state)))?;
     let ours = library::slice(call.machine(), state);
@@ -89,7 +93,7 @@ fn unjudged(call: &Call, state: u64) -> Outcome {
 }
 
 /// Document 01's sheet as a call with its list, at each limit outside and with each fault.
-fn known() -> Outcome {
+pub fn answers() -> Outcome {
     let (mut lawful, seeds) = bench::sheet_set();
     lawful.seeds = seeds.map_err(|refused| format!("{refused:?}"))?;
     let mut count = 0;
@@ -100,6 +104,7 @@ fn known() -> Outcome {
                 ..lawful.clone()
             };
             fault(&mut call);
+            count += all_told(&call, number).map_err(|why| format!("{why} of {call:x?}"))?;
             for room in [0, 1, 2, 8] {
                 count += all_refused(&call, room, number)
                     .map_err(|why| format!("{why} of {call:x?}"))?;
@@ -110,64 +115,4 @@ fn known() -> Outcome {
         }
     }
     Ok(count)
-}
-
-/// The refusals that the second program gives with a limit outside, in the calls for a window, a set, cubes and a list.
-fn note(call: &Call, seen: &mut Seen) {
-    let told: [Result<(), Refused>; 4] = [
-        call.window_seed().map(|_| ()),
-        call.encode_set(&mut []).map(|_| ()),
-        call.encode_cubes(&mut []).map(|_| ()),
-        call.expand(&call.seeds, &mut []).map(|_| ()),
-    ];
-    for (name, told) in ["window", "set", "cubes", "list"].iter().zip(told) {
-        if let Err(refused) = told {
-            seen.note(&format!("{name}: {}", refused.number));
-        }
-    }
-}
-
-/// One call at a limit outside by both programs: checks, window, set, cubes and list.
-fn compare(random: &mut Random, call: &Call, met: &mut Met) -> Outcome {
-    note(call, &mut met.sets);
-    let mut count = leaves::compare_checks(call)?;
-    count += windows::compare(call, &mut met.sets)?;
-    count += compare_set(random, call, 3, met)?;
-    count += compare_cubes(random, call, 3, met)?;
-    count += expands::compare(random, call, 4, &mut met.sets)?;
-    let state = random.bits(call.cells.saturating_add(1));
-    count += unjudged(call, state).map_err(|why| format!("{why} of {call:x?}"))?;
-    if holding(Kind::Set, call) == [3] {
-        met.sets.note("the limit alone");
-    }
-    Ok(count)
-}
-
-/// Random calls at limits outside, whole and with up to three damages.
-fn random_calls() -> Outcome {
-    let mut random = Random(65);
-    let mut met = Met::default();
-    let mut count = 0;
-    for round in 0..6_000 {
-        let mut call = crate::encodes::small(&mut random, 8);
-        for _ in 0..round % 4 {
-            damage_set(&mut random, &mut call);
-        }
-        call.limit = OUTSIDE[random.between(0, OUTSIDE.len() - 1)];
-        count += compare(&mut random, &call, &mut met)?;
-    }
-    met.sets
-        .require(&["the limit alone", "3 before 4", "3 before 5"])?;
-    met.cubes.require(&["3 before 4"])?;
-    for name in ["window", "set", "cubes", "list"] {
-        for number in 1..=3 {
-            met.sets.require(&[&format!("{name}: {number}")])?;
-        }
-    }
-    Ok(count)
-}
-
-/// All calls at limits outside.
-pub fn answers() -> Outcome {
-    Ok(known()? + random_calls()?)
 }

@@ -72,7 +72,7 @@ fn packed_sheet(random: &mut Random, limit: usize) -> Result<Call, String> {
     Ok(call)
 }
 
-/// Lists with one seed and with three, of which one shows the stop in the last slice that the limit allows, or one slice later.
+/// Lists of one to three seeds, of which one shows the stop in the last slice that the limit allows, or one slice later.
 fn at_the_end(random: &mut Random, limit: usize) -> Vec<Vec<u8>> {
     let cells = [10, 16, 33, 64][random.between(0, 3)];
     let (mut call, states) = walk(random, cells);
@@ -87,7 +87,7 @@ fn at_the_end(random: &mut Random, limit: usize) -> Vec<Vec<u8>> {
     texts
 }
 
-/// All sheets of one limit: document 01's, a packed one, both with the line and without, and random ones.
+/// The sheets of one limit: document 01's with the line, and a packed one and random ones with the line and without.
 fn sheets_at(random: &mut Random, limit: usize) -> Result<Vec<Vec<u8>>, String> {
     let packed = sheet(&packed_sheet(random, limit)?);
     let [known, _] = known(limit);
