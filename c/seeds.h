@@ -17,7 +17,7 @@ extern "C" {
 #endif
 
 /* The version of this header and of the Rust package; docs/library.md says what stays from one to the next. */
-#define SEEDS_VERSION "0.5.0"
+#define SEEDS_VERSION "0.6.0"
 
 /* Most cells of a register; most chains; the greatest limit of a window, and the greatest depth; most slices of a set, and most
  * seeds of a list. */
@@ -27,7 +27,7 @@ extern "C" {
 #define SEEDS_MOST_SLICES 2048
 
 /* Bytes of a text that decide its answer, whatever stands behind them; bytes of the longest text that is written. */
-#define SEEDS_LONGEST_INPUT 169521
+#define SEEDS_LONGEST_INPUT 169601
 #define SEEDS_LONGEST_OUTPUT 145408
 
 /* Bytes of stack that are enough for every call: a thread may be made with just that many. */
@@ -40,7 +40,7 @@ extern "C" {
 enum seeds_cause {
     SEEDS_ACCEPTED = 0,
     SEEDS_REGISTER = 1,      /* cells or taps */
-    SEEDS_CHAINS = 2,        /* their number, or a mask */
+    SEEDS_CHAINS = 2,        /* their number, a mask, or an inverted chain that is none of them */
     SEEDS_LENGTHS = 3,       /* depth or limit not 1 to 256, window length not 1 to the limit, a number of slices or seeds */
     SEEDS_TEST_SLICE = 4,    /* a test slice, or two lists unequally long */
     SEEDS_STOP_SLICE = 5,    /* the stop slice */
@@ -60,16 +60,22 @@ enum seeds_cause {
  *
  * The limit is the most slices of a window, 1 to 256. Any other is refused by SEEDS_LENGTHS, with value 0, in every call with
  * a window, a cutting or an expanding in it: seeds_check_window, seeds_check_set, seeds_check_cubes, seeds_check_list,
- * seeds_expand, seeds_window, seeds_encode_set, seeds_encode_cubes. seeds_step and seeds_slice do not look at it. */
+ * seeds_expand, seeds_window, seeds_encode_set, seeds_encode_cubes. seeds_step and seeds_slice do not look at it.
+ *
+ * The chains of invert deliver the opposite bit, wherever a slice is formed: chain j has weight 2^(j-1), 0 is no chain. A bit
+ * beyond the chains is refused by SEEDS_CHAINS, with value 0, in the same calls and in seeds_slice. seeds_step does not look
+ * at it. Test slices and stop slices are written as the slices come out. */
 typedef struct {
     size_t cells;
     uint64_t taps;
     size_t limit;
+    uint64_t invert;
 } seeds_settings;
 
-/* A register, with windows of up to 256 slices. For a lower limit set the field: settings.limit = 64. */
+/* A register, with windows of up to 256 slices and no inverted chain. For a lower limit set the field: settings.limit = 64;
+ * for chain 2 inverted: settings.invert = 2. */
 static inline seeds_settings seeds_settings_of(size_t cells, uint64_t taps) {
-    seeds_settings settings = {cells, taps, SEEDS_LONGEST_WINDOW};
+    seeds_settings settings = {cells, taps, SEEDS_LONGEST_WINDOW, 0};
     return settings;
 }
 
@@ -177,7 +183,7 @@ seeds_cubes_answer seeds_encode_cubes(seeds_settings settings, const uint64_t *m
                                       uint64_t *out, size_t out_len);
 
 /* The text of a sheet to its seed list, and of a seed list to its slice lines. The limit of a window is the number of the
- * text's line window=, or 256 where it has no such line. */
+ * text's line window=, or 256 where it has no such line; the inverted chains are those of its line invert=, or none. */
 seeds_text_answer seeds_encode_text(const uint8_t *sheet, size_t sheet_len, uint8_t *out, size_t out_len);
 seeds_text_answer seeds_expand_text(const uint8_t *list, size_t list_len, uint8_t *out, size_t out_len);
 

@@ -23,7 +23,7 @@ pub enum Cause {
 /// The refusal sheet, by number from 1 on.
 const SHEET: [(Cause, &str); 14] = [
     (Cause::Register, "cells not 1 to 64; taps with a bit at or above cells, or without cell cells-1"),
-    (Cause::Chains, "chains not 1 to 64; a mask 0 or with a bit at or above cells"),
+    (Cause::Chains, "chains not 1 to 64; a mask 0 or with a bit at or above cells; an inverted chain that is none of the chains"),
     (Cause::Lengths, "depth or window limit not 1 to 256; window length not 1 to the limit; slices none, above 2,048 or no multiple of depth; more than 2,048 seeds"),
     (Cause::TestSlice, "a test slice with a bit set where it is unspecified, or beyond the chains; its two lists unequally long"),
     (Cause::StopSlice, "a stop slice with no specified position, or with a bit set where it is unspecified, or beyond the chains"),

@@ -9,7 +9,7 @@ pub const LONGEST_WINDOW: usize = 256;
 /// Most slices of a set, and most seeds of a list.
 pub const MOST_SLICES: usize = 2048;
 /// Bytes of a text that decide its answer, whatever stands behind them.
-pub const LONGEST_INPUT: usize = 169_521;
+pub const LONGEST_INPUT: usize = 169_601;
 /// Bytes of the longest text that a call writes: 2,048 slice lines of 64 chains.
 pub const LONGEST_OUTPUT: usize = 145_408;
 /// Bytes of stack that are enough for every call: a thread may be made with just that many.

@@ -7,7 +7,7 @@
 
 use crate::LONGEST_WINDOW;
 
-/// A register, by its number of cells and its taps, with the settings of a call: the limit is the most slices of a window. Cell i has weight 2^i. It is made by [`Settings::new`]: a version with a setting more has a field more.
+/// A register, by its number of cells and its taps, with the settings of a call: the limit is the most slices of a window, and the chains of `invert` deliver the opposite bit. Cell i has weight 2^i, chain j weight 2^(j-1). It is made by [`Settings::new`]: a version with a setting more has a field more.
 #[repr(C)]
 #[derive(Clone, Copy, Debug, PartialEq, Eq)]
 #[non_exhaustive]
@@ -15,15 +15,17 @@ pub struct Settings {
     pub cells: usize,
     pub taps: u64,
     pub limit: usize,
+    pub invert: u64,
 }
 
 impl Settings {
-    /// A register, with windows of up to 256 slices.
+    /// A register, with windows of up to 256 slices and no inverted chain.
     pub const fn new(cells: usize, taps: u64) -> Settings {
         Settings {
             cells,
             taps,
             limit: LONGEST_WINDOW,
+            invert: 0,
         }
     }
 
@@ -43,6 +45,23 @@ impl Settings {
     /// ```
     pub const fn with_limit(self, limit: usize) -> Settings {
         Settings { limit, ..self }
+    }
+
+    /// The same register, with the chains of `mask` inverted: chain 1 counts 1, chain 2 counts 2, chain 3 counts 4 and so on. They deliver the opposite bit, wherever a slice is formed. A bit beyond the chains is refused by 2 with 0 in every call that takes chains; a step does not look at it.
+    ///
+    /// Document 01's state 3 has the slice 10; with chain 2 inverted it is 11:
+    /// ```
+    /// use seeds::{slice, Machine, Refusal, Settings};
+    /// let of = |mask| slice(Machine::new(Settings::new(3, 6).with_invert(mask), &[1, 4]), 3);
+    /// assert_eq!(of(0), Ok(1));
+    /// assert_eq!(of(2), Ok(3));
+    /// assert_eq!(of(4), Err(Refusal::new(2, 0)));
+    /// ```
+    pub const fn with_invert(self, mask: u64) -> Settings {
+        Settings {
+            invert: mask,
+            ..self
+        }
     }
 }
 

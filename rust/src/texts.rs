@@ -30,7 +30,7 @@ fn written(told: TextAnswer) -> Result<Written, Refusal> {
     }
 }
 
-/// The seed list of a sheet, written into `out`. The limit of a window is the number of the sheet's line `window=`, or 256 where it has no such line. The first refused line, then the checks over the whole, then 9 with the bytes needed and the number of seeds.
+/// The seed list of a sheet, written into `out`. The limit of a window is the number of the sheet's line `window=`, or 256 where it has no such line; the inverted chains are those of its line `invert=`, or none. The first refused line, then the checks over the whole, then 9 with the bytes needed and the number of seeds.
 pub fn encode_text(sheet: &[u8], out: &mut [u8]) -> Result<Written, Refusal> {
     written(entries::encode_text(sheet, out))
 }

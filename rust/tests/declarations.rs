@@ -181,10 +181,11 @@ fn c_functions() {
 }
 
 #[test]
-fn settings_are_made_with_the_longest_window() {
-    let made = "seeds_settings settings = {cells, taps, SEEDS_LONGEST_WINDOW};";
+fn settings_are_made_with_the_longest_window_and_no_inverted_chain() {
+    let made = "seeds_settings settings = {cells, taps, SEEDS_LONGEST_WINDOW, 0};";
     assert!(file("c/seeds.h").contains(made), "{made}");
     assert_eq!(seeds::Settings::new(3, 6).limit, seeds::LONGEST_WINDOW);
+    assert_eq!(seeds::Settings::new(3, 6).invert, 0);
 }
 
 #[test]

@@ -151,6 +151,19 @@ fn limits() {
     }
 }
 
+/// Inverted chains that are none of the chains. Cause 1 comes first, cause 3 later; a step has no chains.
+#[test]
+fn inverted_chains() {
+    for mask in [4, 4 | 1, 1 << 63, u64::MAX] {
+        let settings = R.settings.with_invert(mask);
+        all_refused(Machine::new(settings, R.masks), 2);
+        windows_refused(Machine::new(settings.with_limit(0), R.masks), 2);
+        let cells = Settings::new(0, 6).with_invert(mask);
+        all_refused(Machine::new(cells, R.masks), 1);
+        assert_eq!(step(settings, 7), Ok(6));
+    }
+}
+
 #[test]
 fn lists_unequally_long_and_unlawful_slices() {
     let bad: [(&[u64], &[u64]); 5] = [

@@ -22,8 +22,13 @@ fn cells_of(mask: u64) -> String {
 
 /// The lines above the rows: the register, the chains and the stop slice.
 pub fn head(sheet: &Sheet) -> Vec<String> {
-    let chain =
-        |(number, &mask): (usize, &u64)| format!("Chain {number} reads {}.", cells_of(mask));
+    let chain = |(number, &mask): (usize, &u64)| {
+        let opposite = match sheet.invert >> (number - 1) & 1 {
+            0 => "",
+            _ => ", inverted",
+        };
+        format!("Chain {number} reads {}{opposite}.", cells_of(mask))
+    };
     let chains: Vec<String> = (1..).zip(&sheet.masks).map(chain).collect();
     let stop = (0..chains.len()).map(|position| character(sheet.stop, position));
     let stop: String = stop.collect();

@@ -23,6 +23,7 @@ pub struct Sheet {
     pub cells: usize,
     pub taps: u64,
     pub masks: Vec<u64>,
+    pub invert: u64,
     pub stop: TestSlice,
     pub windows: Vec<Window>,
 }
@@ -43,6 +44,10 @@ impl Sheet {
             cells: text::number(sheet, "cells", 10)? as usize,
             taps: text::number(sheet, "taps", 16)?,
             masks: text::numbers(sheet, "chain", 16)?,
+            invert: text::numbers(sheet, "invert", 16)?
+                .first()
+                .copied()
+                .unwrap_or(0),
             stop: text::slice(stops.first().ok_or("no stop line")?),
             windows: Vec::new(),
         };
@@ -63,7 +68,8 @@ impl Sheet {
     /// The window of a seed from a test slice on.
     fn window(&self, seed: u64, start: usize, tests: &[TestSlice]) -> Result<Window, String> {
         let refused = |why: seeds::Refusal| format!("the seed {seed:x} is refused: {why}");
-        let machine = Machine::new(Settings::new(self.cells, self.taps), &self.masks);
+        let settings = Settings::new(self.cells, self.taps).with_invert(self.invert);
+        let machine = Machine::new(settings, &self.masks);
         let mut moments = Vec::new();
         let mut state = seed;
         for &test in tests[start..].iter().chain([&self.stop]) {

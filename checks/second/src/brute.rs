@@ -1,19 +1,21 @@
 // Holds the brute force: every state of a small register and every cutting of a set.
-// Follows document 01, "Covering and cutting", word by word, with document 02, R-3: the
-// window limit stands where 256 stood. The limit is tested here once more, by itself.
+// Follows document 01, "Covering and cutting", word by word, with document 02, R-3 (the
+// window limit stands where 256 stood) and R-4 (each slice is formed as it comes out, with
+// the inverted chains). Limit and inversion are tested here once more, by themselves.
 
 use crate::check::{check_chains, check_register, check_slices, check_stop};
-use crate::register::{agrees, low_bits, shows, slice, step};
+use crate::register::{agrees, low_bits, shows, step};
 use crate::{refuse, Refused, GREATEST_LIMIT, MOST_SLICES};
 
 /// Most cells for the brute force.
 pub const MOST_BRUTE_CELLS: u64 = 16;
 
-/// A register, its window limit, chains and a stop slice.
+/// A register, its window limit, inverted chains, chains and a stop slice.
 struct Setting<'a> {
     cells: u64,
     taps: u64,
     limit: u64,
+    invert: u64,
     masks: &'a [u64],
     stop_spec: u64,
     stop_bits: u64,
@@ -50,9 +52,19 @@ impl BruteSet {
 }
 
 impl Setting<'_> {
-    /// The slice of a state.
+    /// The slice of a state, chain by chain: 1 where an odd number of the mask's cells hold
+    /// 1 and the chain isn't inverted, or an even number and it is.
     fn slice(&self, state: u64) -> u64 {
-        slice(self.masks, state)
+        let mut all = 0;
+        for (place, &mask) in self.masks.iter().take(64).enumerate() {
+            let weight = 1u64 << place;
+            let odd_ones = (mask & state).count_ones() % 2 == 1;
+            let inverted = self.invert & weight != 0;
+            if odd_ones != inverted {
+                all |= weight;
+            }
+        }
+        all
     }
 
     /// The state after a step.
@@ -68,6 +80,12 @@ impl Setting<'_> {
     /// True if the limit is one that document 02 allows.
     fn limit_is_lawful(&self) -> bool {
         self.limit != 0 && self.limit <= GREATEST_LIMIT
+    }
+
+    /// True if every inverted chain is one of the chains.
+    fn invert_is_lawful(&self) -> bool {
+        let mut beyond = self.masks.len()..64;
+        beyond.all(|place| (self.invert >> place) & 1 == 0)
     }
 
     /// True if the state covers the window. A limit that isn't lawful allows no window.
@@ -111,6 +129,9 @@ impl Setting<'_> {
         let chains = self.masks.len() as u64;
         check_register(self.cells, self.taps)?;
         check_chains(self.cells, self.masks)?;
+        if !self.invert_is_lawful() {
+            return refuse(2, 0);
+        }
         if !self.limit_is_lawful() || spec.is_empty() || spec.len() as u64 > most {
             return refuse(3, 0);
         }
@@ -174,12 +195,14 @@ fn longest_windows(table: &Table) -> (Vec<u64>, usize) {
 }
 
 /// True if the state covers the window, which has 1 to `limit` slices. False for a limit
-/// out of its range: no window is within it.
+/// out of its range: no window is within it. A bit of `invert` beyond the chains names no
+/// chain and changes no slice.
 #[allow(clippy::too_many_arguments)]
 pub fn covers(
     cells: u64,
     taps: u64,
     limit: u64,
+    invert: u64,
     masks: &[u64],
     stop_spec: u64,
     stop_bits: u64,
@@ -191,6 +214,7 @@ pub fn covers(
         cells,
         taps,
         limit,
+        invert,
         masks,
         stop_spec,
         stop_bits,
@@ -198,14 +222,15 @@ pub fn covers(
     .covers(spec, bits, state)
 }
 
-/// The seed of a window, found by trying all states. Causes 1, 2, 3 (the limit, or a length
-/// not 1 to the limit), 4, 5, 7. None if causes 1 to 5 don't hold and the register has more
-/// than 16 cells.
+/// The seed of a window, found by trying all states. Causes 1, 2 (the chains, or
+/// `invert`), 3 (the limit, or a length not 1 to the limit), 4, 5, 7. None if causes 1 to 5
+/// don't hold and the register has more than 16 cells.
 #[allow(clippy::too_many_arguments)]
 pub fn brute_window(
     cells: u64,
     taps: u64,
     limit: u64,
+    invert: u64,
     masks: &[u64],
     stop_spec: u64,
     stop_bits: u64,
@@ -216,6 +241,7 @@ pub fn brute_window(
         cells,
         taps,
         limit,
+        invert,
         masks,
         stop_spec,
         stop_bits,
@@ -234,13 +260,15 @@ pub fn brute_window(
     Some(refuse(7, 0))
 }
 
-/// What all states and all cuttings say of a set. Causes 1, 2, 3 (the limit, or the number
-/// of slices), 4, 5. None if these don't hold and the register has more than 16 cells.
+/// What all states and all cuttings say of a set. Causes 1, 2 (the chains, or
+/// `invert`), 3 (the limit, or the number of slices), 4, 5. None if these don't hold and the
+/// register has more than 16 cells.
 #[allow(clippy::too_many_arguments)]
 pub fn brute_set(
     cells: u64,
     taps: u64,
     limit: u64,
+    invert: u64,
     masks: &[u64],
     stop_spec: u64,
     stop_bits: u64,
@@ -251,6 +279,7 @@ pub fn brute_set(
         cells,
         taps,
         limit,
+        invert,
         masks,
         stop_spec,
         stop_bits,

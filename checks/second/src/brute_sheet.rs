@@ -1,6 +1,6 @@
 // Holds the encoding program's text as the brute force finds it.
-// Follows document 01, "Sheet and seed list", and document 02, R-3: "fewest" is meant among
-// windows up to the window limit.
+// Follows document 01, "Sheet and seed list", and document 02, R-3 ("fewest" is meant among
+// windows up to the window limit) and R-4 (slices come out with the inverted chains).
 
 use crate::brute::{brute_set, covers, BruteSet};
 use crate::lines::refusal_text;
@@ -51,6 +51,7 @@ fn brute_sheet(sheet: &Sheet, stop: (u64, u64)) -> Option<Result<BruteSet, Refus
         head.cells,
         head.taps,
         head.limit(),
+        head.invert(),
         &head.masks,
         stop.0,
         stop.1,
@@ -63,14 +64,17 @@ fn brute_sheet(sheet: &Sheet, stop: (u64, u64)) -> Option<Result<BruteSet, Refus
 /// and that begins where the last one ended. None if a seed covers no such window. A state
 /// covers windows of one length only, so there is nothing to choose.
 fn delivered(sheet: &Sheet, stop: (u64, u64), seeds: &[u64]) -> Option<usize> {
-    let (cells, taps, limit) = (sheet.head.cells, sheet.head.taps, sheet.head.limit());
+    let head = &sheet.head;
+    let (cells, taps, limit, invert) = (head.cells, head.taps, head.limit(), head.invert());
     let mut start = 0;
     for &seed in seeds {
         let ends = start + 1..=sheet.spec.len();
         let end = ends.take(limit as usize).find(|&end| {
             let (spec, bits) = (&sheet.spec[start..end], &sheet.bits[start..end]);
-            let masks = &sheet.head.masks;
-            covers(cells, taps, limit, masks, stop.0, stop.1, spec, bits, seed)
+            let masks = &head.masks;
+            covers(
+                cells, taps, limit, invert, masks, stop.0, stop.1, spec, bits, seed,
+            )
         });
         start = end?;
     }

@@ -1,5 +1,6 @@
 // Holds the tests of what is handed in, by causes 1 to 5.
-// Follows document 01, "Refusal sheet", and document 02, R-3 (window limit).
+// Follows document 01, "Refusal sheet", and document 02, R-3 (window limit) and
+// R-4 (inverted chains).
 
 use crate::register::low_bits;
 use crate::{refuse, Refused, GREATEST_DEPTH, GREATEST_LIMIT};
@@ -39,6 +40,16 @@ pub fn check_chains(cells: u64, masks: &[u64]) -> Result<(), Refused> {
     check_chain_count(masks.len() as u64)?;
     for &mask in masks {
         check_mask(cells, mask)?;
+    }
+    Ok(())
+}
+
+/// Cause 2: the mask of the inverted chains, which is in slice weights. Reading: a mask of 0
+/// is lawful, since no line means just that; 0 is a fault of a chain's mask only. The number
+/// of chains itself is tested elsewhere.
+pub fn check_invert(chains: u64, invert: u64) -> Result<(), Refused> {
+    if invert & !low_bits(chains) != 0 {
+        return refuse(2, 0);
     }
     Ok(())
 }

@@ -1,17 +1,22 @@
 // Holds the expanding of a seed list to slices.
-// Follows document 01, "Covering and cutting" and "Refusal sheet", with document 02, R-3:
-// the window limit stands where 256 stood in cause 12.
+// Follows document 01, "Covering and cutting" and "Refusal sheet", with document 02, R-3
+// (the window limit stands where 256 stood in cause 12) and R-4 (causes 11, 12 and 14 are
+// judged on the slices as they come out, inverted chains included).
 
-use crate::check::{check_chains, check_limit, check_register, check_slice_count, check_stop};
+use crate::check::{
+    check_chains, check_invert, check_limit, check_register, check_slice_count, check_stop,
+};
 use crate::register::{low_bits, shows, slice, step};
 use crate::{refuse, Refused, MOST_SLICES};
 
 /// The slices of a seed before its first stop, which slice `limit` is the last to show.
 /// Causes 10, 11, 12 with the seed's place.
+#[allow(clippy::too_many_arguments)]
 fn run(
     cells: u64,
     taps: u64,
     limit: u64,
+    invert: u64,
     masks: &[u64],
     stop: (u64, u64),
     seed: u64,
@@ -23,7 +28,7 @@ fn run(
     let mut slices = Vec::new();
     let mut state = seed;
     for t in 0..=limit {
-        let here = slice(masks, state);
+        let here = slice(masks, invert, state);
         if shows(stop.0, stop.1, here) {
             if t == 0 {
                 return refuse(11, place as u64);
@@ -37,13 +42,14 @@ fn run(
 }
 
 /// Expands the seeds to `total` slices, which stand first in `out`; returns their number.
-/// Causes 1, 2, 3 (the limit, `total`, or the number of seeds), 5; then the seeds by 10, 11,
-/// 12; then 14, 9. On refusal `out` is as it was.
+/// Causes 1, 2 (the chains, or `invert`), 3 (the limit, `total`, or the number of seeds), 5;
+/// then the seeds by 10, 11, 12; then 14, 9. On refusal `out` is as it was.
 #[allow(clippy::too_many_arguments)]
 pub fn expand(
     cells: u64,
     taps: u64,
     limit: u64,
+    invert: u64,
     masks: &[u64],
     stop_spec: u64,
     stop_bits: u64,
@@ -53,6 +59,7 @@ pub fn expand(
 ) -> Result<usize, Refused> {
     check_register(cells, taps)?;
     check_chains(cells, masks)?;
+    check_invert(masks.len() as u64, invert)?;
     check_limit(limit)?;
     check_slice_count(total)?;
     if seeds.len() > MOST_SLICES {
@@ -62,7 +69,7 @@ pub fn expand(
     let stop = (stop_spec, stop_bits);
     let mut slices = Vec::new();
     for (place, &seed) in seeds.iter().enumerate() {
-        slices.extend(run(cells, taps, limit, masks, stop, seed, place)?);
+        slices.extend(run(cells, taps, limit, invert, masks, stop, seed, place)?);
     }
     if slices.len() as u64 != total {
         return refuse(14, slices.len() as u64);

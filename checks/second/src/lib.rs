@@ -1,8 +1,8 @@
 // Holds the list of modules, the type of a refusal and the greatest values.
-// Follows document 01, "Refusal sheet", and document 02, R-3.
+// Follows document 01, "Refusal sheet", and document 02, R-3 and R-4.
 
 //! Self-stopping seeds for scan slices: a second program, made from document
-//! 004 (section III.A, figure 2), document 01 and document 02, without sight
+//! 004 (section III.A, figure 2), document 01 and document 02, without sight
 //! of the definitions.
 
 mod brute;
@@ -23,7 +23,9 @@ mod window;
 pub use brute::{brute_set, brute_window, covers, BruteSet, MOST_BRUTE_CELLS};
 pub use brute_sheet::{brute_text, BruteText};
 pub use brute_stop::{brute_stop_exists, MOST_BRUTE_CHAINS};
-pub use check::{check_chains, check_limit, check_register, check_slices, check_stop};
+pub use check::{
+    check_chains, check_invert, check_limit, check_register, check_slices, check_stop,
+};
 pub use encode::{encode_cubes, encode_set};
 pub use expand::expand;
 pub use lines::{refusal_text, slice_of, slice_text};

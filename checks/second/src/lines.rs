@@ -1,7 +1,8 @@
 // Holds the reading of lines, their keys, numbers and slices, and the printing of them.
-// Follows document 01, "Sheet and seed list", and document 02, R-3 (the window line).
+// Follows document 01, "Sheet and seed list", and document 02, R-3 (the window line)
+// and R-4 (the invert line).
 
-use crate::check::{check_chain_count, check_limit, check_mask, check_register};
+use crate::check::{check_chain_count, check_invert, check_limit, check_mask, check_register};
 use crate::{refuse, Refused, DEFAULT_LIMIT, MOST_CELLS, MOST_SLICES};
 
 /// Most bytes of a line, its line feed included.
@@ -95,19 +96,33 @@ impl<'a> Lines<'a> {
         let value = self.value(key)?;
         self.formed(hexadecimal(value))
     }
+
+    /// The next line's hexadecimal number if the line begins with `key`; else as in
+    /// `decimal_if_there`.
+    fn hexadecimal_if_there(&mut self, key: &[u8]) -> Result<Option<u64>, Refused> {
+        if !self.rest.starts_with(key) {
+            return Ok(None);
+        }
+        self.hexadecimal(key).map(Some)
+    }
 }
 
-/// The register, chains and window line, which a sheet and a list begin with.
+/// The register, chains, invert line and window line, which a sheet and a list begin with.
 pub struct Head {
     pub cells: u64,
     pub taps: u64,
     pub masks: Vec<u64>,
+    /// The mask of the invert line, if there is one.
+    invert: Option<u64>,
     /// The number of the window line, if there is one.
     window: Option<u64>,
 }
 
 impl Head {
-    /// Reads the lines cells, taps, chains, chain and, if it is there, window.
+    /// Reads the lines cells, taps, chains, chain and, each if it is there, invert and
+    /// window. Reading: R-4 doesn't say in which text; chain lines stand in both, so an
+    /// invert line may follow them in both. It is a mask and has the form of masks. Behind
+    /// the window line, or a second time, it is out of order.
     pub fn read(lines: &mut Lines) -> Result<Head, Refused> {
         let cells = lines.decimal(b"cells=")?;
         if !(1..=MOST_CELLS).contains(&cells) {
@@ -123,12 +138,15 @@ impl Head {
             lines.in_range(check_mask(cells, mask))?;
             masks.push(mask);
         }
+        let invert = lines.hexadecimal_if_there(b"invert=")?;
+        lines.in_range(check_invert(chains, invert.unwrap_or(0)))?;
         let window = lines.decimal_if_there(b"window=")?;
         lines.in_range(window.map_or(Ok(()), check_limit))?;
         Ok(Head {
             cells,
             taps,
             masks,
+            invert,
             window,
         })
     }
@@ -138,13 +156,22 @@ impl Head {
         self.window.unwrap_or(DEFAULT_LIMIT)
     }
 
-    /// Prints the lines that `read` has read: the window line only if there was one.
+    /// The mask of the inverted chains.
+    pub fn invert(&self) -> u64 {
+        self.invert.unwrap_or(0)
+    }
+
+    /// Prints the lines that `read` has read: an invert line, with a mask of 0 too, and a
+    /// window line only if there was one.
     pub fn print(&self, text: &mut String) {
         text.push_str(&format!("cells={}\n", self.cells));
         text.push_str(&format!("taps={:x}\n", self.taps));
         text.push_str(&format!("chains={}\n", self.masks.len()));
         for mask in &self.masks {
             text.push_str(&format!("chain={mask:x}\n"));
+        }
+        if let Some(invert) = self.invert {
+            text.push_str(&format!("invert={invert:x}\n"));
         }
         if let Some(window) = self.window {
             text.push_str(&format!("window={window}\n"));

@@ -1,5 +1,6 @@
 // Holds the seed list and the expanding program's text.
-// Follows document 01, "Sheet and seed list", and document 02, R-3 (the window line).
+// Follows document 01, "Sheet and seed list", and document 02, R-3 (the window line)
+// and R-4 (the invert line).
 
 use crate::check::{check_slice_count, check_stop};
 use crate::expand::expand;
@@ -45,6 +46,7 @@ fn expanded(input: &[u8]) -> Result<String, Refused> {
         list.head.cells,
         list.head.taps,
         list.head.limit(),
+        list.head.invert(),
         &list.head.masks,
         list.stop_spec,
         list.stop_bits,

@@ -1,5 +1,5 @@
 // Holds the step of the register, the slice of a state and the two tests on a slice.
-// Follows document 01, "Register and chains".
+// Follows document 01, "Register and chains", and document 02, R-4 (inverted chains).
 
 /// The number whose lowest `count` bits are 1; all 64 bits from a count of 64 on.
 pub fn low_bits(count: u64) -> u64 {
@@ -21,11 +21,13 @@ pub fn step(cells: u64, taps: u64, state: u64) -> u64 {
     ((held << 1) | odd(held & taps)) & low_bits(cells)
 }
 
-/// The slice of a state: chain j has weight 2^(j-1). Masks after the 64th have no weight.
-pub fn slice(masks: &[u64], state: u64) -> u64 {
+/// The slice of a state as it comes out: chain j has weight 2^(j-1), and a chain named in
+/// `invert` delivers the opposite bit. Masks after the 64th have no weight. A slice is the
+/// chains' bits and no others, so a bit of `invert` beyond the chains changes nothing.
+pub fn slice(masks: &[u64], invert: u64, state: u64) -> u64 {
     let mut all = 0;
     for (place, mask) in masks.iter().take(64).enumerate() {
-        all |= odd(mask & state) << place;
+        all |= (odd(mask & state) ^ (invert >> place & 1)) << place;
     }
     all
 }

@@ -1,5 +1,6 @@
 // Holds the sheet of test slices and the encoding program's text.
-// Follows document 01, "Sheet and seed list", and document 02, R-3 (the window line).
+// Follows document 01, "Sheet and seed list", and document 02, R-3 (the window line)
+// and R-4 (the invert line).
 
 use crate::check::{check_cubes, check_depth};
 use crate::encode::encode_cubes;
@@ -53,6 +54,7 @@ fn encoded(input: &[u8]) -> Result<String, Refused> {
         sheet.head.cells,
         sheet.head.taps,
         sheet.head.limit(),
+        sheet.head.invert(),
         &sheet.head.masks,
         sheet.depth,
         &sheet.spec,

@@ -1,9 +1,10 @@
 // Holds the seed of a window and the longest covered window at a place of a set.
-// Follows document 01, "Covering and cutting", with document 02, R-3: the window limit
-// stands where 256 stood.
+// Follows document 01, "Covering and cutting", with document 02, R-3 (the window limit
+// stands where 256 stood) and R-4 (inverted chains).
 
 use crate::check::{
-    check_chains, check_limit, check_register, check_slices, check_stop, check_window_length,
+    check_chains, check_invert, check_limit, check_register, check_slices, check_stop,
+    check_window_length,
 };
 use crate::plane::Plane;
 use crate::search::Search;
@@ -15,19 +16,24 @@ pub struct Machine {
     /// Most slices of a window. The lists below reach slice `limit`, the last that can be
     /// a window's stop.
     limit: usize,
-    /// `rows[t][j]`: the cells of a seed whose sum is the bit of chain j+1 in slice t.
+    /// The inverted chains. Such a chain delivers a bit exactly when the sum of its row is
+    /// the opposite one.
+    invert: u64,
+    /// `rows[t][j]`: the cells of a seed whose sum is the bit of chain j+1 in slice t, before
+    /// inversion.
     rows: Vec<Vec<u64>>,
-    /// `shown[t]`: slice t shows the stop exactly when, for each of these pairs, the
-    /// cells of the seed in the row sum to the bit.
+    /// `shown[t]`: slice t, as it comes out, shows the stop exactly when, for each of these
+    /// pairs, the cells of the seed in the row sum to the bit.
     shown: Vec<Vec<(u64, u64)>>,
 }
 
-/// The specified places of a slice and its bits there.
-fn specified(spec: u64, bits: u64) -> Vec<(usize, u64)> {
+/// The specified places of a slice and the sums that the rows must have there: its bits, the
+/// opposite at an inverted chain.
+fn sums(invert: u64, spec: u64, bits: u64) -> Vec<(usize, u64)> {
     let mut places = Vec::new();
     for place in 0..64 {
         if (spec >> place) & 1 == 1 {
-            places.push((place, (bits >> place) & 1));
+            places.push((place, ((bits ^ invert) >> place) & 1));
         }
     }
     places
@@ -40,12 +46,13 @@ fn row_before_step(taps: u64, row: u64) -> u64 {
 }
 
 impl Machine {
-    /// For a register, chains, a window limit and a stop slice that have passed causes 1,
-    /// 2, 3 and 5.
+    /// For a register, chains, their inversion, a window limit and a stop slice that have
+    /// passed causes 1, 2, 3 and 5.
     pub fn new(
         cells: u64,
         taps: u64,
         limit: u64,
+        invert: u64,
         masks: &[u64],
         stop_spec: u64,
         stop_bits: u64,
@@ -59,12 +66,13 @@ impl Machine {
                 .collect();
             rows.push(next);
         }
-        let stop = specified(stop_spec, stop_bits);
-        let shown_by = |row: &Vec<u64>| stop.iter().map(|&(j, bit)| (row[j], bit)).collect();
+        let stop = sums(invert, stop_spec, stop_bits);
+        let shown_by = |row: &Vec<u64>| stop.iter().map(|&(j, sum)| (row[j], sum)).collect();
         let shown = rows.iter().map(shown_by).collect();
         Machine {
             cells,
             limit,
+            invert,
             rows,
             shown,
         }
@@ -77,8 +85,8 @@ impl Machine {
         let mut planes = vec![Plane::all(self.cells)];
         for (t, (&places, &values)) in spec.iter().zip(bits).take(self.limit).enumerate() {
             let mut plane = planes[t].clone();
-            for (place, bit) in specified(places, values) {
-                if !plane.keep_row(self.rows[t][place], bit) {
+            for (place, sum) in sums(self.invert, places, values) {
+                if !plane.keep_row(self.rows[t][place], sum) {
                     return planes;
                 }
             }
@@ -121,13 +129,14 @@ impl Machine {
     }
 }
 
-/// The seed of a window: the lowest covering state. Causes 1, 2, 3 (the limit, or a length
-/// not 1 to the limit), 4, 5, 7.
+/// The seed of a window: the lowest covering state. Causes 1, 2 (the chains, or `invert`), 3
+/// (the limit, or a length not 1 to the limit), 4, 5, 7.
 #[allow(clippy::too_many_arguments)]
 pub fn window_seed(
     cells: u64,
     taps: u64,
     limit: u64,
+    invert: u64,
     masks: &[u64],
     stop_spec: u64,
     stop_bits: u64,
@@ -136,11 +145,12 @@ pub fn window_seed(
 ) -> Result<u64, Refused> {
     check_register(cells, taps)?;
     check_chains(cells, masks)?;
+    check_invert(masks.len() as u64, invert)?;
     check_limit(limit)?;
     check_window_length(limit, spec.len() as u64)?;
     check_slices(masks.len() as u64, spec, bits)?;
     check_stop(masks.len() as u64, stop_spec, stop_bits)?;
-    let machine = Machine::new(cells, taps, limit, masks, stop_spec, stop_bits);
+    let machine = Machine::new(cells, taps, limit, invert, masks, stop_spec, stop_bits);
     match machine.seed(spec, bits) {
         Some(seed) => Ok(seed),
         None => refuse(7, 0),

@@ -14,8 +14,8 @@ const MASKS: [u64; 2] = [1, 4];
 fn window(texts: &[&str]) -> Result<u64, Refused> {
     let (spec, bits) = set(texts);
     let (stop_spec, stop_bits) = one("01");
-    let exact = window_seed(3, 6, LIMIT, &MASKS, stop_spec, stop_bits, &spec, &bits);
-    let brute = brute_window(3, 6, LIMIT, &MASKS, stop_spec, stop_bits, &spec, &bits);
+    let exact = window_seed(3, 6, LIMIT, 0, &MASKS, stop_spec, stop_bits, &spec, &bits);
+    let brute = brute_window(3, 6, LIMIT, 0, &MASKS, stop_spec, stop_bits, &spec, &bits);
     assert_eq!(Some(exact), brute);
     exact
 }
@@ -94,7 +94,7 @@ fn state_7_shows_the_stop_early() {
     let mut state = 7;
     let mut shown = Vec::new();
     for _ in 0..3 {
-        shown.push(shows(stop_spec, stop_bits, slice(&MASKS, state)));
+        shown.push(shows(stop_spec, stop_bits, slice(&MASKS, 0, state)));
         state = step(3, 6, state);
     }
     assert_eq!(shown, [false, true, true]);
@@ -107,12 +107,12 @@ fn set_of_r_that_cannot_be_cut() {
     for space in 0..3 {
         let mut out = vec![9; space];
         let answer = encode_set(
-            3, 6, LIMIT, &MASKS, stop_spec, stop_bits, &spec, &bits, &mut out,
+            3, 6, LIMIT, 0, &MASKS, stop_spec, stop_bits, &spec, &bits, &mut out,
         );
         assert_eq!(answer, refused(8, 1));
         assert_eq!(out, vec![9; space]);
     }
-    let brute = brute_set(3, 6, LIMIT, &MASKS, stop_spec, stop_bits, &spec, &bits);
+    let brute = brute_set(3, 6, LIMIT, 0, &MASKS, stop_spec, stop_bits, &spec, &bits);
     let found = brute.unwrap().unwrap();
     assert_eq!(
         (found.fewest, found.longest_start, found.reached),
@@ -135,7 +135,7 @@ fn seeds_of_r_refused() {
         (&[3, 3, 3], 14, 6),
     ] {
         let answer = expand(
-            3, 6, LIMIT, &MASKS, stop_spec, stop_bits, 4, seeds, &mut out,
+            3, 6, LIMIT, 0, &MASKS, stop_spec, stop_bits, 4, seeds, &mut out,
         );
         assert_eq!(answer, refused(number, value), "{seeds:?}");
         assert_eq!(out, [9; 4]);
@@ -147,7 +147,7 @@ fn the_sheet_as_calls() {
     let (spec, bits) = set(&["10", "x1", "1x", "1x"]);
     let (stop_spec, stop_bits) = one("0x");
     let mut out = [9; 4];
-    let answer = encode_cubes(3, 6, LIMIT, &MASKS, 2, &spec, &bits, &mut out);
+    let answer = encode_cubes(3, 6, LIMIT, 0, &MASKS, 2, &spec, &bits, &mut out);
     assert_eq!(answer, Ok((stop_spec, stop_bits, 2)));
     assert_eq!(out, [3, 3, 9, 9]);
     let mut slices = [9; 5];
@@ -155,6 +155,7 @@ fn the_sheet_as_calls() {
         3,
         6,
         LIMIT,
+        0,
         &MASKS,
         stop_spec,
         stop_bits,
@@ -171,10 +172,10 @@ fn a_buffer_one_entry_short() {
     let (spec, bits) = set(&["10", "x1", "1x", "1x"]);
     let (stop_spec, stop_bits) = one("0x");
     let mut out = [9];
-    let answer = encode_cubes(3, 6, LIMIT, &MASKS, 2, &spec, &bits, &mut out);
+    let answer = encode_cubes(3, 6, LIMIT, 0, &MASKS, 2, &spec, &bits, &mut out);
     assert_eq!(answer, refused(9, 2));
     let answer = encode_set(
-        3, 6, LIMIT, &MASKS, stop_spec, stop_bits, &spec, &bits, &mut out,
+        3, 6, LIMIT, 0, &MASKS, stop_spec, stop_bits, &spec, &bits, &mut out,
     );
     assert_eq!(answer, refused(9, 2));
     assert_eq!(out, [9]);
@@ -183,6 +184,7 @@ fn a_buffer_one_entry_short() {
         3,
         6,
         LIMIT,
+        0,
         &MASKS,
         stop_spec,
         stop_bits,
@@ -199,6 +201,7 @@ fn core_12() -> Core {
     Core {
         cells: 12,
         taps: 0b1110_0000_1000,
+        invert: 0,
         masks: (0..12).map(|cell| 1 << cell).collect(),
         stop: (0xfff, 0xfff),
     }
@@ -254,13 +257,13 @@ fn taps_in_cell_63_only() {
     // Slice t is cell 63-t of the seed for t below 64, then the same again.
     for m in 1..=256u64 {
         let free = vec![0; m as usize];
-        let answer = window_seed(64, last, LIMIT, &[last], 1, 1, &free, &free);
+        let answer = window_seed(64, last, LIMIT, 0, &[last], 1, 1, &free, &free);
         let wanted = if m < 64 { Ok(last >> m) } else { refused(7, 0) };
         assert_eq!(answer, wanted, "{m}");
     }
     let mut out = [9; 5];
     let free = [0; 200];
-    let answer = encode_set(64, last, LIMIT, &[last], 1, 1, &free, &free, &mut out);
+    let answer = encode_set(64, last, LIMIT, 0, &[last], 1, 1, &free, &free, &mut out);
     assert_eq!(answer, Ok(4));
     assert_eq!(out, [1, 1, 1, 1 << 52, 9]);
 }
@@ -272,13 +275,13 @@ fn equal_masks_are_lawful() {
     let (spec, bits) = set(&["0x", "x0"]);
     let (same_spec, same_bits) = one("11");
     assert_eq!(
-        window_seed(3, 6, LIMIT, &masks, same_spec, same_bits, &spec, &bits),
+        window_seed(3, 6, LIMIT, 0, &masks, same_spec, same_bits, &spec, &bits),
         Ok(1)
     );
     let (other_spec, other_bits) = one("01");
-    let answer = window_seed(3, 6, LIMIT, &masks, other_spec, other_bits, &spec, &bits);
+    let answer = window_seed(3, 6, LIMIT, 0, &masks, other_spec, other_bits, &spec, &bits);
     assert_eq!(answer, refused(7, 0));
     let (spec, bits) = set(&["0x", "x1"]);
-    let answer = window_seed(3, 6, LIMIT, &masks, same_spec, same_bits, &spec, &bits);
+    let answer = window_seed(3, 6, LIMIT, 0, &masks, same_spec, same_bits, &spec, &bits);
     assert_eq!(answer, refused(7, 0));
 }

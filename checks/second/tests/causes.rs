@@ -66,8 +66,8 @@ fn causes_in_rising_order() {
     ];
     for (cells, masks, count, bit, stop, number) in rows {
         let (spec, bits) = (vec![0; count], vec![bit; count]);
-        let window = window_seed(cells, 6, LIMIT, &masks, stop, 0, &spec, &bits);
-        let set = encode_set(cells, 6, LIMIT, &masks, stop, 0, &spec, &bits, &mut out);
+        let window = window_seed(cells, 6, LIMIT, 0, &masks, stop, 0, &spec, &bits);
+        let set = encode_set(cells, 6, LIMIT, 0, &masks, stop, 0, &spec, &bits, &mut out);
         if number == 0 {
             assert_eq!((window, set), (Ok(1), Ok(1)));
         } else {
@@ -80,7 +80,8 @@ fn causes_in_rising_order() {
 #[test]
 fn causes_of_cubes_stops_and_lists_in_rising_order() {
     let cubes = |cells, masks: &[u64], depth, spec: &[u64], bits: &[u64]| {
-        encode_cubes(cells, 6, LIMIT, masks, depth, spec, bits, &mut [9; 4]).map_err(|r| r.number)
+        encode_cubes(cells, 6, LIMIT, 0, masks, depth, spec, bits, &mut [9; 4])
+            .map_err(|r| r.number)
     };
     assert_eq!(cubes(4, &[0], 0, &[0], &[1]), Err(1));
     assert_eq!(cubes(3, &[0], 0, &[0], &[1]), Err(2));
@@ -96,7 +97,7 @@ fn causes_of_cubes_stops_and_lists_in_rising_order() {
     assert_eq!(stop_slice(1, &[], &[1]), refused(3, 0));
     assert_eq!(stop_slice(1, &[1, 1], &[1]), refused(4, 0));
     let list = |taps, masks: &[u64], total| {
-        expand(3, taps, LIMIT, masks, 0, 0, total, &[8], &mut []).map_err(|r| r.number)
+        expand(3, taps, LIMIT, 0, masks, 0, 0, total, &[8], &mut []).map_err(|r| r.number)
     };
     assert_eq!(list(2, &[0], 0), Err(1));
     assert_eq!(list(6, &[0], 0), Err(2));
@@ -125,6 +126,15 @@ fn any_limit(random: &mut Random) -> u64 {
     }
 }
 
+/// A mask of inverted chains that mostly names chains only.
+fn any_invert(random: &mut Random, masks: &[u64]) -> u64 {
+    if random.percent(70) {
+        random.below(1 << masks.len())
+    } else {
+        any_number(random)
+    }
+}
+
 fn any_list(random: &mut Random) -> Vec<u64> {
     let length = random.below(5);
     (0..length).map(|_| any_number(random)).collect()
@@ -138,24 +148,26 @@ fn no_input_panics() {
         let (a, b, c, d) = (any_number(r), any_number(r), any_number(r), any_number(r));
         let (masks, spec, bits) = (any_list(r), any_list(r), any_list(r));
         let limit = any_limit(r);
+        let invert = any_invert(r, &masks);
         let mut out = any_list(r);
         let before = out.clone();
         let _ = (
             step(a, b, c),
-            slice(&masks, a),
+            slice(&masks, b, a),
             agrees(a, b, c),
             shows(a, b, c),
         );
         let _ = (check_register(a, b), check_chains(a, &masks));
-        let _ = (check_limit(a), check_limit(limit));
+        let _ = (check_limit(a), check_limit(limit), check_invert(a, b));
         let _ = (check_slices(a, &spec, &bits), check_stop(a, b, c));
         let _ = (stop_slice(a, &spec, &bits), stop_trace(a, &spec, &bits));
         let _ = spare_pattern(a, &spec, &bits);
-        let _ = window_seed(a, b, limit, &masks, c, d, &spec, &bits);
-        let _ = covers(a, b, limit, &masks, c, d, &spec, &bits, d);
-        let mut unchanged = encode_set(a, b, limit, &masks, c, d, &spec, &bits, &mut out).is_err();
-        unchanged &= encode_cubes(a, b, limit, &masks, c, &spec, &bits, &mut out).is_err();
-        unchanged &= expand(a, b, limit, &masks, c, d, c, &spec, &mut out).is_err();
+        let _ = window_seed(a, b, limit, invert, &masks, c, d, &spec, &bits);
+        let _ = covers(a, b, limit, invert, &masks, c, d, &spec, &bits, d);
+        let mut unchanged =
+            encode_set(a, b, limit, invert, &masks, c, d, &spec, &bits, &mut out).is_err();
+        unchanged &= encode_cubes(a, b, limit, invert, &masks, c, &spec, &bits, &mut out).is_err();
+        unchanged &= expand(a, b, limit, invert, &masks, c, d, c, &spec, &mut out).is_err();
         assert!(!unchanged || out == before);
     }
 }

@@ -30,7 +30,7 @@ fn each_call_at_unlawful_limits() {
             assert!(!core.covers(limit, &slices, &slices, state));
             let mut out = [9; 300];
             let masks = &core.masks;
-            let answer = encode_cubes(9, 0x108, limit, masks, 1, &slices, &slices, &mut out);
+            let answer = encode_cubes(9, 0x108, limit, 0, masks, 1, &slices, &slices, &mut out);
             assert_eq!((answer, out), (refused(3, 0), [9; 300]));
         }
     }
@@ -62,10 +62,10 @@ fn each_call_at_lawful_limits() {
     }
     // The free slices get the stop 1xxxxxxxx: cell 0 holds 1 after a step.
     let mut out = [9; 3];
-    let answer = encode_cubes(9, 0x108, 1, &core.masks, 3, &[0; 3], &[0; 3], &mut out);
+    let answer = encode_cubes(9, 0x108, 1, 0, &core.masks, 3, &[0; 3], &[0; 3], &mut out);
     assert_eq!((answer, out), (Ok((1, 1, 3)), [8; 3]));
     let mut out = [9; 3];
-    let answer = encode_cubes(9, 0x108, 2, &core.masks, 3, &[0; 3], &[0; 3], &mut out);
+    let answer = encode_cubes(9, 0x108, 2, 0, &core.masks, 3, &[0; 3], &[0; 3], &mut out);
     assert_eq!((answer, out), (Ok((1, 1, 2)), [4, 8, 9]));
 }
 
@@ -74,6 +74,7 @@ fn brute_force_of_17_cells() {
     let core = Core {
         cells: 17,
         taps: 1 << 16,
+        invert: 0,
         masks: vec![1],
         stop: (1, 1),
     };
@@ -83,7 +84,7 @@ fn brute_force_of_17_cells() {
     }
     for limit in LAWFUL {
         assert_eq!(core.brute_window(limit, &[0], &[0]), None);
-        let found = brute_set(17, 1 << 16, limit, &[1], 1, 1, &[0], &[0]);
+        let found = brute_set(17, 1 << 16, limit, 0, &[1], 1, 1, &[0], &[0]);
         assert_eq!(found, None);
     }
 }
@@ -96,30 +97,31 @@ fn the_limit_among_the_causes() {
         for (cells, masks, number) in rows {
             let mut out = [9; 4];
             let wanted = Refused { number, value: 0 };
-            let window = window_seed(cells, 6, limit, &masks, 0, 0, &[0], &[1]);
+            let window = window_seed(cells, 6, limit, 0, &masks, 0, 0, &[0], &[1]);
             assert_eq!(window, Err(wanted));
-            let window = brute_window(cells, 6, limit, &masks, 0, 0, &[0], &[1]);
+            let window = brute_window(cells, 6, limit, 0, &masks, 0, 0, &[0], &[1]);
             assert_eq!(window, Some(Err(wanted)));
-            let answer = encode_set(cells, 6, limit, &masks, 0, 0, &[0], &[1], &mut out);
+            let answer = encode_set(cells, 6, limit, 0, &masks, 0, 0, &[0], &[1], &mut out);
             assert_eq!(answer, Err(wanted));
-            let answer = brute_set(cells, 6, limit, &masks, 0, 0, &[0], &[1]);
+            let answer = brute_set(cells, 6, limit, 0, &masks, 0, 0, &[0], &[1]);
             assert_eq!(answer, Some(Err(wanted)));
-            let answer = encode_cubes(cells, 6, limit, &masks, 1, &[0], &[1], &mut out);
+            let answer = encode_cubes(cells, 6, limit, 0, &masks, 1, &[0], &[1], &mut out);
             assert_eq!(answer, Err(wanted));
-            let answer = expand(cells, 6, limit, &masks, 0, 0, 1, &[8], &mut out);
+            let answer = expand(cells, 6, limit, 0, &masks, 0, 0, 1, &[8], &mut out);
             assert_eq!(answer, Err(wanted));
             assert_eq!(out, [9; 4]);
         }
         // The limit before 6, 7, 8, 9, 14.
-        let cubes = encode_cubes(3, 6, limit, &[1], 1, &[1, 1], &[0, 1], &mut []);
+        let cubes = encode_cubes(3, 6, limit, 0, &[1], 1, &[1, 1], &[0, 1], &mut []);
         assert_eq!(cubes, refused(3, 0));
         let (spec, bits) = set(&["11", "xx"]);
-        let (places, values) = one("01");
-        let window = window_seed(3, 6, limit, &[1, 4], places, values, &spec, &bits);
+        let stop = one("01");
+        let window = window_seed(3, 6, limit, 0, &[1, 4], stop.0, stop.1, &spec, &bits);
         assert_eq!(window, refused(3, 0));
-        let cut = encode_set(3, 6, limit, &[1, 4], places, values, &spec, &bits, &mut []);
+        let (r, out) = (&[1, 4], &mut []);
+        let cut = encode_set(3, 6, limit, 0, r, stop.0, stop.1, &spec, &bits, out);
         assert_eq!(cut, refused(3, 0));
-        let answer = expand(3, 6, limit, &[1, 4], places, values, 4, &[], &mut []);
+        let answer = expand(3, 6, limit, 0, r, stop.0, stop.1, 4, &[], &mut []);
         assert_eq!(answer, refused(3, 0));
     }
 }
@@ -135,15 +137,15 @@ fn a_window_beyond_the_limit_among_the_causes() {
     ];
     for (cells, masks, bit, stop, number) in rows {
         let wanted = refused(number, 0);
-        let answer = window_seed(cells, 6, 1, &masks, stop, 0, &[0, 0], &[bit, 0]);
+        let answer = window_seed(cells, 6, 1, 0, &masks, stop, 0, &[0, 0], &[bit, 0]);
         assert_eq!(answer, wanted);
-        let answer = brute_window(cells, 6, 1, &masks, stop, 0, &[0, 0], &[bit, 0]);
+        let answer = brute_window(cells, 6, 1, 0, &masks, stop, 0, &[0, 0], &[bit, 0]);
         assert_eq!(answer, Some(wanted));
     }
     // Cause 3 counts the list of specified positions.
-    let answer = window_seed(3, 6, 1, &[1], 1, 0, &[0], &[0, 0]);
+    let answer = window_seed(3, 6, 1, 0, &[1], 1, 0, &[0], &[0, 0]);
     assert_eq!(answer, refused(4, 0));
-    let answer = window_seed(3, 6, 1, &[1], 1, 0, &[0, 0], &[0]);
+    let answer = window_seed(3, 6, 1, 0, &[1], 1, 0, &[0, 0], &[0]);
     assert_eq!(answer, refused(3, 0));
 }
 
@@ -290,7 +292,7 @@ fn lowest(core: &Core, spec: &[u64], bits: &[u64]) -> Option<u64> {
         let mut now = state;
         let mut slices = Vec::new();
         for _ in 0..=spec.len() {
-            slices.push(slice(&core.masks, now));
+            slices.push(slice(&core.masks, core.invert, now));
             now = step(core.cells, core.taps, now);
         }
         let shown = slices
@@ -465,7 +467,7 @@ fn cubes_under_a_limit() {
         let mut out = vec![9; spec.len()];
         let masks = &core.masks;
         let (cells, taps) = (core.cells, core.taps);
-        let answer = encode_cubes(cells, taps, limit, masks, 1, &spec, &bits, &mut out);
+        let answer = encode_cubes(cells, taps, limit, 0, masks, 1, &spec, &bits, &mut out);
         let stop = match stop_slice(masks.len() as u64, &spec, &bits) {
             Ok(stop) => stop,
             Err(refused) => {
@@ -565,6 +567,7 @@ fn wide_registers_under_a_limit() {
         let core = Core {
             cells: 64,
             taps: random.taps(64),
+            invert: 0,
             masks: random.masks(64, chains),
             stop: random.stop(chains, 15),
         };

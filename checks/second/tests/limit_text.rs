@@ -3,61 +3,10 @@
 
 mod common;
 
-use common::cores::{counter, free, small, steps_before_stop, Core};
+use common::cores::{counter, free, small, steps_before_stop};
+use common::texts::{encoded, expanded, head, put, refusal, slice_lines, LIST, SHEET, SLICES};
 use common::{refused, Random};
 use second::*;
-
-/// The lines of a core up to the last chain.
-fn head(core: &Core) -> String {
-    let mut text = format!(
-        "cells={}\ntaps={:x}\nchains={}\n",
-        core.cells,
-        core.taps,
-        core.masks.len()
-    );
-    for mask in &core.masks {
-        text.push_str(&format!("chain={mask:x}\n"));
-    }
-    text
-}
-
-fn slice_lines(chains: usize, spec: &[u64], bits: &[u64]) -> String {
-    let slices = spec.iter().zip(bits);
-    slices
-        .map(|(&places, &values)| format!("slice={}\n", slice_text(chains, places, values)))
-        .collect()
-}
-
-fn encoded(text: &str) -> String {
-    let list = encode_text(text.as_bytes());
-    assert_eq!(
-        brute_text(text.as_bytes()),
-        BruteText::Printed(list.clone())
-    );
-    String::from_utf8(list).unwrap()
-}
-
-fn expanded(text: &str) -> String {
-    String::from_utf8(expand_text(text.as_bytes())).unwrap()
-}
-
-fn refusal(number: u64, at: usize) -> String {
-    format!("refused={number}\nat={at}\n")
-}
-
-/// Document 01's sheet and list; a window line stands in line 6.
-const SHEET: &str = "cells=3\ntaps=6\nchains=2\nchain=1\nchain=4\ndepth=2\n\
-                     slice=10\nslice=x1\nslice=1x\nslice=1x\n";
-const LIST: &str = "cells=3\ntaps=6\nchains=2\nchain=1\nchain=4\nstop=0x\nslices=4\n\
-                    seed=3\nseed=3\n";
-const SLICES: &str = "slice=10\nslice=11\nslice=10\nslice=11\n";
-
-/// The text with more before its line, counted from 1.
-fn put(text: &str, line: usize, more: &str) -> String {
-    let mut lines: Vec<&str> = text.split_inclusive('\n').collect();
-    lines.insert(line - 1, more);
-    lines.concat()
-}
 
 /// What both programs say of their text with `more` before line 6.
 fn both(more: &str) -> (String, String) {
@@ -353,12 +302,12 @@ fn cubes_and_their_text_at_every_limit() {
         };
         held.push(limit);
         let mut out = vec![9; spec.len() / limit];
-        let masks = &core.masks;
-        let answer = encode_cubes(9, 0x108, limit as u64, masks, 1, &spec, &bits, &mut out);
+        let (most, masks) = (limit as u64, &core.masks);
+        let answer = encode_cubes(9, 0x108, most, 0, masks, 1, &spec, &bits, &mut out);
         assert_eq!(answer, Ok((0x1ff, 0x1ff, out.len())), "{limit}");
         assert!(out.iter().all(|&seed| seed == before[limit]));
         let mut short = vec![9; out.len() - 1];
-        let answer = encode_cubes(9, 0x108, limit as u64, masks, 1, &spec, &bits, &mut short);
+        let answer = encode_cubes(9, 0x108, most, 0, masks, 1, &spec, &bits, &mut short);
         assert_eq!(answer, refused(9, out.len() as u64));
         let (head, window) = (head(&core), format!("window={limit}\n"));
         let tail = format!("stop=111111111\nslices={}\n", spec.len());

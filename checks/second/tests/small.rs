@@ -34,6 +34,7 @@ fn fixed_case(
     let core = Core {
         cells,
         taps: random.taps(cells),
+        invert: 0,
         masks: random.masks(cells, chains),
         stop: random.stop(chains, stop_share),
     };

@@ -297,7 +297,7 @@ fn sheet(cells: u64, taps: u64, masks: &[u64], spec: &[u64], bits: &[u64]) -> St
 fn encoding_of_the_six_slices() {
     let (spec, bits) = set(&SIX);
     let mut out = [99; 6];
-    let answer = encode_cubes(6, 0x21, LIMIT, &[1, 8], 3, &spec, &bits, &mut out);
+    let answer = encode_cubes(6, 0x21, LIMIT, 0, &[1, 8], 3, &spec, &bits, &mut out);
     let (stop_spec, stop_bits, count) = answer.unwrap();
     assert_eq!((stop_spec, stop_bits), one("11"));
     let mut same = [99; 6];
@@ -305,6 +305,7 @@ fn encoding_of_the_six_slices() {
         6,
         0x21,
         LIMIT,
+        0,
         &[1, 8],
         stop_spec,
         stop_bits,

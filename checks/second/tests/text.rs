@@ -1,5 +1,6 @@
 // Holds tests of the text of the two programs.
-// Follows document 01, "Sheet and seed list"; some sheets have document 02's window line.
+// Follows document 01, "Sheet and seed list"; some sheets have document 02's invert and
+// window lines.
 
 mod common;
 
@@ -268,6 +269,9 @@ fn random_sheet(random: &mut Random) -> Vec<u8> {
     );
     for mask in random.masks(cells, chains) {
         text.push_str(&format!("chain={mask:x}\n"));
+    }
+    if random.percent(30) {
+        text.push_str(&format!("invert={:x}\n", random.below(1 << chains)));
     }
     if random.percent(30) {
         text.push_str(&format!("window={}\n", random.between(1, 5)));

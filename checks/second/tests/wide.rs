@@ -57,7 +57,7 @@ fn row(cells: u64, taps: u64, mask: u64, t: usize) -> u64 {
         for _ in 0..t {
             state = step(cells, taps, state);
         }
-        row |= slice(&[mask], state) << cell;
+        row |= slice(&[mask], 0, state) << cell;
     }
     row
 }
@@ -82,11 +82,8 @@ fn rising(
     let Some((low, directions)) = solve(cells, &equations) else {
         return Some(None);
     };
-    let whole = if directions.len() < 40 {
-        1 << directions.len()
-    } else {
-        u64::MAX
-    };
+    // From 40 directions on there are more states than tries.
+    let whole = 1u64 << directions.len().min(40);
     let mut last = None;
     for number in 0..whole.min(tries) {
         let mut state = low;
@@ -97,7 +94,8 @@ fn rising(
         }
         assert!(last.is_none_or(|before| before < state));
         last = Some(state);
-        if covers(cells, taps, LIMIT, masks, stop.0, stop.1, spec, bits, state) {
+        let (s, b) = stop;
+        if covers(cells, taps, LIMIT, 0, masks, s, b, spec, bits, state) {
             return Some(Some(state));
         }
     }
@@ -127,7 +125,7 @@ fn windows_of_wide_registers() {
         let Some(slow) = rising(setting, &spec, &bits, 1 << 14) else {
             continue;
         };
-        let exact = window_seed(cells, taps, LIMIT, &masks, stop.0, stop.1, &spec, &bits);
+        let exact = window_seed(cells, taps, LIMIT, 0, &masks, stop.0, stop.1, &spec, &bits);
         assert_eq!(exact.ok(), slow);
         match slow {
             Some(_) => covered += 1,
@@ -150,7 +148,7 @@ fn sets_of_wide_registers() {
         let masks = random.masks(64, chains);
         let (spec, bits) = random.slices(256, chains, share);
         let mut out = vec![0; 256];
-        let answer = encode_cubes(64, taps, LIMIT, &masks, 4, &spec, &bits, &mut out);
+        let answer = encode_cubes(64, taps, LIMIT, 0, &masks, 4, &spec, &bits, &mut out);
         let (stop_spec, stop_bits, count) = answer.unwrap();
         assert_eq!(stop_slice(chains, &spec, &bits), Ok((stop_spec, stop_bits)));
         let mut slices = vec![0; 256];
@@ -159,6 +157,7 @@ fn sets_of_wide_registers() {
             64,
             taps,
             LIMIT,
+            0,
             &masks,
             stop_spec,
             stop_bits,

@@ -23,7 +23,7 @@ module _ (g : Settings) (masks ps bs : List ℕ) where
   pub cubes-formed : (depth : ℕ) → judged (cubesFaults g masks depth ps bs) ≡ verdict.WellFormed → CubesFormed g masks ps bs
   cubes-formed depth w =
       let f = call.cubes-formed g masks ps bs depth w in
-      record { register = f .register; chains = f .chains; limit = f .limit; lengths = cubes-lengths depth (length ps) (f .lengths); slices = f .slices }
+      record { register = f .register; chains = f .chains; invert = f .invert; limit = f .limit; lengths = cubes-lengths depth (length ps) (f .lengths); slices = f .slices }
 
   module _ (c : CubesFormed g masks ps bs) where
     pub cubes-stop : judged (stopFaults (length masks) ps bs) ≡ verdict.WellFormed
@@ -38,4 +38,4 @@ module _ (g : Settings) (masks ps bs : List ℕ) where
 
     pub cubes-set : (st : TestSlice) → badStop (length masks) st ≡ false → judged (setFaults g masks st ps bs) ≡ verdict.WellFormed
     unfolding setFaults
-    cubes-set st b = call.formed-call g masks _ _ _ (c .register) (c .chains) (c .limit) (c .lengths) (c .slices) b
+    cubes-set st b = call.formed-call g masks _ _ _ (c .register) (c .chains) (c .invert) (c .limit) (c .lengths) (c .slices) b

@@ -5,6 +5,7 @@ use mathlib.Core.Bool.{false}
 use mathlib.Core.List.{List}
 use Prim.Native.Nat.{ℕ}
 use lib.ListN.{length}
+use Rattle.words_gf2.specs.Words.{beyond}
 use Rattle.machine_settings.specs.declared.Settings.{Settings}
 use Rattle.machine_register.specs.Register.{badRegister}
 use Rattle.machine_chains.specs.Chains.{badChains}
@@ -14,6 +15,7 @@ use Rattle.refusal_lengths.specs.Lengths.{badLimit, badSet}
 pub record CubesFormed (g : Settings) (masks specified bits : List ℕ) : Type 0 where
   pub register : badRegister (g .cells) (g .taps) ≡ false
   pub chains : badChains (g .cells) masks ≡ false
+  pub invert : beyond (length masks) (g .invert) ≡ false
   pub limit : badLimit (g .limit) ≡ false
   pub lengths : badSet (length specified) ≡ false
   pub slices : badSlices (length masks) specified bits ≡ false

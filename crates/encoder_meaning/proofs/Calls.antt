@@ -62,7 +62,7 @@ module _ (g : Settings) (masks : List ℕ) (stop : TestSlice) (specified bits : 
   list-formed : verdict-of ≡ verdict.WellFormed → (seeds : List ℕ) → Shortest M R set seeds
       → judged (listFaults g masks stop (length specified) (length seeds)) ≡ verdict.WellFormed
   unfolding listFaults
-  list-formed w seeds l = formed-call g masks _ _ _ (formed w .register) (formed w .chains) (formed w .limit)
+  list-formed w seeds l = formed-call g masks _ _ _ (formed w .register) (formed w .chains) (formed w .invert) (formed w .limit)
       (list-seeds (length specified) (length seeds) (formed w .lengths) ∙ le-ltb 2048 (length seeds) (few-seeds w seeds l)) refl (formed w .stop)
 
   expands-back : verdict-of ≡ verdict.WellFormed → (seeds out : List ℕ) → Shortest M R set seeds

@@ -3,3 +3,4 @@ pub mod Seeds
 pub mod Meaning
 pub mod Calls
 pub mod Limits
+pub mod Inversion

@@ -21,7 +21,7 @@ use Rattle.refusal_causes.specs.Outcome.{Outcome, refuse}
 use Rattle.refusal_causes.proofs.Outcome.{fill-cases}
 use Rattle.refusal_lengths.specs.Lengths.{mostLimit, badLimit}
 use Rattle.machine_settings.specs.declared.Settings.{Settings}
-use Rattle.machine_settings.specs.Machine.{Machine, machine}
+use Rattle.machine_settings.specs.Machine.{Machine, machine, badChainsOf}
 use Rattle.machine_register.proofs.Steps.{step-below}
 use Rattle.machine_slices.specs.declared.TestSlice.{TestSlice}
 use Rattle.machine_slices.specs.Slices.{paired}
@@ -119,7 +119,7 @@ limit-fine limit l m = rw (within-holds 1 mostLimit limit l m)
 
 module _ (g : Settings) (limit : ℕ) (h : Larger g limit) (masks : List ℕ) where
   pub larger-faults : (l s t : Bool) → callFaults (withLimit limit g) masks l s t ≡ callFaults g masks l s t
-  unfolding callFaults
+  unfolding callFaults badChainsOf
   larger-faults l s t =
       let a = limit-fine (g .limit) (h .least) (omega (arith, h .larger, h .most)) in
       let b = limit-fine limit (omega (arith, h .least, h .larger)) (h .most) in

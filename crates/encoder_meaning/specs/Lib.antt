@@ -2,3 +2,4 @@
 pub mod Encoding
 pub mod Meaning
 pub mod Limits
+pub mod Inversion

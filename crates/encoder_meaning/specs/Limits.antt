@@ -46,7 +46,7 @@ module _ {A : Type 0} (count : ℕ → A) (refused : Cause → A) where
     pub uncut : (h : ℕ) → large ≡ refused (cause.NoCutting h) → (g : ℕ) × (small ≡ refused (cause.NoCutting g)) × (g ≤ h)
 
 abbrev pub withLimit : ℕ → Settings → Settings
-withLimit limit g = record { cells = g .cells; taps = g .taps; limit = limit }
+withLimit limit g = record { cells = g .cells; taps = g .taps; limit = limit; invert = g .invert }
 
 pub record Larger (g : Settings) (limit : ℕ) : Type 0 where
   pub least : 1 ≤ g .limit

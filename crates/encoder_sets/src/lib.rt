@@ -6,7 +6,7 @@ use refusal_causes::Written;
 use refusal_order::Verdict;
 use window_tables::Sought;
 ghost use mathlib.Core.Path.{_≡_};
-ghost use Rattle.machine_settings.specs.Machine.{machine};
+ghost use Rattle.machine_settings.specs.Machine.{noneInverted, machine};
 ghost use Rattle.machine_slices.specs.Slices.{paired};
 ghost use Rattle.refusal_order.specs.Order.{judged};
 ghost use Rattle.refusal_checks.specs.Calls.{setFaults};
@@ -15,9 +15,8 @@ ghost use Rattle.theory_covering.specs.Rules.{rules};
 ghost use Rattle.encoder_meaning.specs.Encoding.{encoding, encodeSet};
 ghost use Rattle.encoder_meaning.specs.Meaning.{SetMeaning};
 
-// The encoding of a well-formed set. Each window is searched once; its seed waits in an array of its own until the answer is known.
-// An inner function: its callers show that the set is well-formed.
-pub fn encode(
+// The encoding of a well-formed set, where no chain is inverted. Each window is searched once; its seed waits in an array of its own until the answer is known.
+fn encode_upright(
     settings: Settings,
     masks: &[u64],
     stop: TestSlice,
@@ -25,7 +24,7 @@ pub fn encode(
     bits: &[u64],
     out: &mut [u64],
 ) -> Written
-    requires { ⌜ judged (setFaults settings (now masks) stop (now specified) (now bits)) ≡ verdict.WellFormed ⌝ }
+    requires { ⌜ (judged (setFaults settings (now masks) stop (now specified) (now bits)) ≡ verdict.WellFormed) × (settings .invert ≡ noneInverted) ⌝ }
     ensures answer { λ r. ⌜ r ≡ encoding (machine settings (now (masks .entry))) (rules settings stop) (paired (now (specified .entry)) (now (bits .entry))) (now (out .entry)) .answer ⌝ }
     ensures buffer { λ _. ⌜ now (out .exit) ≡ encoding (machine settings (now (masks .entry))) (rules settings stop) (paired (now (specified .entry)) (now (bits .entry))) (now (out .entry)) .buffer ⌝ }
 {
@@ -54,6 +53,35 @@ pub fn encode(
         &mut seeds,
     );
     encoder_settling::settle(specified.len(), gathered, &seeds, out)
+}
+
+// The encoding of a well-formed set: what it asks for is flipped at the inverted chains, once.
+// An inner function: its callers show that the set is well-formed.
+pub fn encode(
+    settings: Settings,
+    masks: &[u64],
+    stop: TestSlice,
+    specified: &[u64],
+    bits: &[u64],
+    out: &mut [u64],
+) -> Written
+    requires { ⌜ judged (setFaults settings (now masks) stop (now specified) (now bits)) ≡ verdict.WellFormed ⌝ }
+    ensures answer { λ r. ⌜ r ≡ encoding (machine settings (now (masks .entry))) (rules settings stop) (paired (now (specified .entry)) (now (bits .entry))) (now (out .entry)) .answer ⌝ }
+    ensures buffer { λ _. ⌜ now (out .exit) ≡ encoding (machine settings (now (masks .entry))) (rules settings stop) (paired (now (specified .entry)) (now (bits .entry))) (now (out .entry)) .buffer ⌝ }
+{
+    let mut flipped = [0u64; refusal_lengths::MOST_SLICES];
+    let invert = settings.invert;
+    machine_inversion::flip_bits(invert, specified, bits, &mut flipped);
+    let upright = machine_inversion::upright(settings);
+    let shown = machine_inversion::flip(invert, stop);
+    encode_upright(
+        upright,
+        masks,
+        shown,
+        specified,
+        &flipped[..bits.len()],
+        out,
+    )
 }
 
 // The encoding of a set with its stop slice: how many seeds were written into the buffer, or the first of causes 1 to 5 that holds, then 8, then 9.

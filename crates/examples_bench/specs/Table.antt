@@ -1,7 +1,7 @@
 -- The starred examples of document 01, "Bench examples", and examples of R-1 and R-3 of document 02: one table, and one proof over it. Register R is cells 3, taps 6, chain masks 1 and 4.
 --     Question     what is asked, in the words of the examples
 --     Told         what is told: numbers, a slice, a list with its stop slice, or a refusal with its number and value
---     answer       what the definitions answer, with the limit of windows
+--     answer       what the definitions answer, under the settings of a call
 --     Row, table   the questions with what document 01 tells
 --     answers, tolds     the two columns of a table
 --     starred      the definitions answer what document 01 tells, in every row
@@ -21,7 +21,7 @@ use Rattle.refusal_causes.specs.Sheet.{refusalOf}
 use Rattle.refusal_causes.specs.Outcome.{Outcome, refuse, fill}
 use Rattle.machine_register.specs.Register.{step, badRegister}
 use Rattle.machine_chains.specs.Chains.{slice as chainsSlice, badCount, badMask, badChains}
-use Rattle.machine_settings.specs.Machine.{Machine, base, machine, defaultLimit}
+use Rattle.machine_settings.specs.Machine.{Machine, base, machine, badChainsOf}
 use Rattle.machine_settings.specs.declared.Settings.{Settings}
 use Rattle.machine_slices.specs.declared.TestSlice.{TestSlice}
 use Rattle.machine_slices.specs.Slices.{agrees, shows, paired, badSlice, badSlices, badStop}
@@ -58,6 +58,7 @@ pub data Question : Type 0 where
   sheet : ℕ → List String → Question  -- R, cubes of this depth
   expand : String → ℕ → List ℕ → Question  -- R, this stop, slices, seeds
   under : ℕ → Question → Question  -- the same with windows of up to so many slices
+  inverted : ℕ → Question → Question  -- the same with these chains inverted
 
 pub data Told : Type 0 where
   numbers : List ℕ → Told
@@ -73,7 +74,7 @@ R = machine (base 3 6) masks
 
 -- a lent buffer
 abbrev lent : List ℕ
-lent = 9 ∷ 9 ∷ 9 ∷ 9 ∷ []
+lent = 9 ∷ 9 ∷ 9 ∷ 9 ∷ 9 ∷ []
 
 -- ---- what the definitions answer
 
@@ -108,19 +109,17 @@ yes : Bool → ℕ
 yes true = 1
 yes false = 0
 
-settings : ℕ → Settings
-settings limit = record { cells = 3; taps = 6; limit = limit }
-
-answer : ℕ → Question → Told
-answer w (stepping s t) = numbers (states s t)
-answer w (stop-slice chains ss) = of-formed (stopOf chains (specifieds ss) (bitses ss))
-answer w (window stop ss) = of-seed (windowSeed (settings w) masks (slice stop) (specifieds ss) (bitses ss))
-answer w (fitting stop ss s) = numbers (yes (fits R (slice stop) true (paired (specifieds ss) (bitses ss)) s) ∷ [])
-answer w (showing stop m s) = numbers (showings (slice stop) s 0 m)
-answer w (set stop ss) = (let o : Outcome = encodeSet (settings w) masks (slice stop) (specifieds ss) (bitses ss) lent in of-written (o .answer) (o .buffer))
-answer w (sheet depth ss) = (let o : CubesOutcome = encodeCubes (settings w) masks depth (specifieds ss) (bitses ss) lent in of-encoded (o .answer) (o .buffer))
-answer w (expand stop n seeds) = (let o : Outcome = expandList (settings w) masks (slice stop) n seeds lent in of-written (o .answer) (o .buffer))
-answer w (under limit q) = answer limit q
+answer : Settings → Question → Told
+answer g (stepping s t) = numbers (states s t)
+answer g (stop-slice chains ss) = of-formed (stopOf chains (specifieds ss) (bitses ss))
+answer g (window stop ss) = of-seed (windowSeed g masks (slice stop) (specifieds ss) (bitses ss))
+answer g (fitting stop ss s) = numbers (yes (fits R (slice stop) true (paired (specifieds ss) (bitses ss)) s) ∷ [])
+answer g (showing stop m s) = numbers (showings (slice stop) s 0 m)
+answer g (set stop ss) = (let o : Outcome = encodeSet g masks (slice stop) (specifieds ss) (bitses ss) lent in of-written (o .answer) (o .buffer))
+answer g (sheet depth ss) = (let o : CubesOutcome = encodeCubes g masks depth (specifieds ss) (bitses ss) lent in of-encoded (o .answer) (o .buffer))
+answer g (expand stop n seeds) = (let o : Outcome = expandList g masks (slice stop) n seeds lent in of-written (o .answer) (o .buffer))
+answer g (under limit q) = answer (record { cells = g .cells; taps = g .taps; limit = limit; invert = g .invert }) q
+answer g (inverted invert q) = answer (record { cells = g .cells; taps = g .taps; limit = g .limit; invert = invert }) q
 
 -- ---- the table
 
@@ -177,16 +176,39 @@ table =
     ∷ record { asked = under 257 (set "01" ("10" ∷ "x1" ∷ [])); told = refused 3 0 }
     ∷ record { asked = under 257 (window "01" ("10" ∷ [])); told = refused 3 0 }
     ∷ record { asked = under 0 (expand "01" 2 (3 ∷ [])); told = refused 3 0 }
+    -- R-4: with chain 2 inverted all slices of state 0 are 01, the stop; with chain 1 they are 10
+    ∷ record { asked = inverted 2 (expand "01" 1 (0 ∷ [])); told = refused 11 0 }
+    ∷ record { asked = inverted 1 (expand "01" 1 (0 ∷ [])); told = refused 12 0 }
+    -- R-4: the set 10, x1 has its seed where no chain is inverted
+    ∷ record { asked = inverted 0 (set "01" ("10" ∷ "x1" ∷ [])); told = numbers (3 ∷ []) }
+    ∷ record { asked = inverted 1 (set "01" ("10" ∷ "x1" ∷ [])); told = refused 8 1 }
+    ∷ record { asked = inverted 2 (set "01" ("10" ∷ "x1" ∷ [])); told = refused 8 0 }
+    -- R-4: the slices 1x, 0x, which cannot be cut, have the seed 2 with both chains inverted; it delivers 11, 00
+    ∷ record { asked = inverted 3 (window "01" ("1x" ∷ "0x" ∷ [])); told = numbers (2 ∷ []) }
+    ∷ record { asked = inverted 3 (set "01" ("1x" ∷ "0x" ∷ [])); told = numbers (2 ∷ []) }
+    ∷ record { asked = inverted 3 (expand "01" 2 (2 ∷ [])); told = numbers (3 ∷ 0 ∷ []) }
+    -- R-4: the stop of a sheet is formed over its slices as written, and its seeds are others
+    ∷ record { asked = inverted 2 (sheet 2 ("10" ∷ "x1" ∷ "1x" ∷ "1x" ∷ [])); told = list-is (slice "0x") (5 ∷ 1 ∷ []) }
+    ∷ record { asked = inverted 3 (sheet 2 ("10" ∷ "x1" ∷ "1x" ∷ "1x" ∷ [])); told = list-is (slice "0x") (4 ∷ 2 ∷ 6 ∷ []) }
+    ∷ record { asked = inverted 3 (expand "0x" 4 (4 ∷ 2 ∷ 6 ∷ [])); told = numbers (1 ∷ 3 ∷ 1 ∷ 1 ∷ []) }
+    -- R-4: with a limit, which seed 3 needs in full
+    ∷ record { asked = inverted 2 (under 5 (expand "01" 5 (3 ∷ []))); told = numbers (3 ∷ 1 ∷ 0 ∷ 0 ∷ 3 ∷ []) }
+    ∷ record { asked = inverted 2 (under 4 (expand "01" 5 (3 ∷ []))); told = refused 12 0 }
+    -- R-4: there is no chain 3; cause 2 comes before 3
+    ∷ record { asked = inverted 4 (window "01" ("10" ∷ [])); told = refused 2 0 }
+    ∷ record { asked = inverted 7 (set "01" ("10" ∷ "x1" ∷ [])); told = refused 2 0 }
+    ∷ record { asked = inverted 4 (sheet 0 ("10" ∷ [])); told = refused 2 0 }
+    ∷ record { asked = inverted 4 (under 0 (expand "01" 1 (0 ∷ []))); told = refused 2 0 }
     ∷ []
 
 pub answers : List Row → List Told
 answers [] = []
-answers (r ∷ rs) = answer defaultLimit (r .asked) ∷ answers rs
+answers (r ∷ rs) = answer (base 3 6) (r .asked) ∷ answers rs
 
 pub tolds : List Row → List Told
 tolds [] = []
 tolds (r ∷ rs) = r .told ∷ tolds rs
 
 pub starred : answers table ≡ tolds table
-unfolding answers tolds answer settings refusal states showings of-formed of-seed of-written of-encoded yes digit odd beyond ones onesIn within any leastBelow lastBelow refuse fill step badRegister chainsSlice badCount badMask badChains agrees shows paired badSlice badSlices badStop badLimit badWindow badSet badCubes badList tests firstOf judged limited callFaults windowFaults setFaults cubesFaults stopFaults listFaults reach hop ends greedy filter count better choice settle keep setBy advance stage ended equals taken spare spareStop steps stopFor stopOr6 stopOf fits quiet covers seedOf before far placed closes seedAt ok lowestOr7 windowSeed slicesOf firstStop ending delivers after adding walk totalled expanding expandList seedsOf planned encoding encodeSet stopped withStop cubesEncoding encodeCubes isCharacter specifiedAt bitAt inFront sliceOf
+unfolding answers tolds answer refusal states showings of-formed of-seed of-written of-encoded yes digit odd beyond ones onesIn within any leastBelow lastBelow refuse fill step badRegister chainsSlice badCount badMask badChains badChainsOf agrees shows paired badSlice badSlices badStop badLimit badWindow badSet badCubes badList tests firstOf judged limited callFaults windowFaults setFaults cubesFaults stopFaults listFaults reach hop ends greedy filter count better choice settle keep setBy advance stage ended equals taken spare spareStop steps stopFor stopOr6 stopOf fits quiet covers seedOf before far placed closes seedAt ok lowestOr7 windowSeed slicesOf firstStop ending delivers after adding walk totalled expanding expandList seedsOf planned encoding encodeSet stopped withStop cubesEncoding encodeCubes isCharacter specifiedAt bitAt inFront sliceOf
 starred = refl

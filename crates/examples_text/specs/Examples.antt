@@ -16,6 +16,7 @@ use Rattle.words_gf2.specs.Words.{digit, odd, beyond}
 use Rattle.refusal_causes.specs.Outcome.{refuse, fill}
 use Rattle.machine_register.specs.Register.{step, badRegister}
 use Rattle.machine_chains.specs.Chains.{slice, badCount, badMask, badChains}
+use Rattle.machine_settings.specs.Machine.{badChainsOf}
 use Rattle.machine_slices.specs.Slices.{agrees, shows, paired, badSlice, badSlices, badStop}
 use Rattle.refusal_lengths.specs.Lengths.{badLimit, badSet, badCubes, badList}
 use Rattle.refusal_order.specs.Order.{tests, firstOf, judged}
@@ -46,7 +47,7 @@ use Rattle.text_write_numbers.specs.Numerals.{glyph, lastDigits, numeral}
 use Rattle.text_write_characters.specs.Characters.{character, characters as charactersOf, sliceLine}
 use Rattle.text_write_numbers.specs.Lines.{numberLine, numberLines}
 use Rattle.text_write_slices.specs.Slices.{sliceLines}
-use Rattle.text_write_head.specs.Head.{headText}
+use Rattle.text_write_head.specs.Head.{chainsText, headText}
 use Rattle.text_write_list.specs.SeedList.{listText}
 use Rattle.text_write_refusal.specs.Refused.{refusedText}
 use Rattle.text_encode_said.specs.Encoded.{listReply, encoded}
@@ -187,6 +188,22 @@ table =
     ∷ record { asked = encode (R "depth=2\nwindow=2\n"); told = prints (bytes "refused=13\nat=7\n") }
     ∷ record { asked = expand (R "stop=0x\nwindow=2\n"); told = prints (bytes "refused=13\nat=7\n") }
     ∷ record { asked = encode (R "window=2\n"); told = prints (bytes "refused=13\nat=7\n") }
+    -- R-4, document 02: the list repeats the invert line, `invert=0` too, and is read with it; the stop slice is that of the slices as written
+    ∷ record { asked = encode (R "invert=2\ndepth=2\nslice=10\nslice=x1\nslice=1x\nslice=1x\n"); told = prints (bytes "cells=3\ntaps=6\nchains=2\nchain=1\nchain=4\ninvert=2\nstop=0x\nslices=4\nseed=5\nseed=1\n") }
+    ∷ record { asked = encode (R "invert=0\nwindow=2\ndepth=2\nslice=10\nslice=x1\nslice=1x\nslice=1x\n"); told = prints (bytes "cells=3\ntaps=6\nchains=2\nchain=1\nchain=4\ninvert=0\nwindow=2\nstop=0x\nslices=4\nseed=3\nseed=3\n") }
+    ∷ record { asked = expand (R "invert=2\nstop=0x\nslices=4\nseed=5\nseed=1\n"); told = prints (bytes "slice=10\nslice=11\nslice=10\nslice=11\n") }
+    ∷ record { asked = expand (R "invert=3\nwindow=3\nstop=01\nslices=2\nseed=2\n"); told = prints (bytes "slice=11\nslice=00\n") }
+    ∷ record { asked = expand (R "invert=2\nstop=01\nslices=1\nseed=0\n"); told = prints (bytes "refused=11\nat=0\n") }
+    -- R-4: a chain that is none of the chains, and a number out of form
+    ∷ record { asked = encode (R "invert=4\n"); told = prints (bytes "refused=2\nat=6\n") }
+    ∷ record { asked = expand (R "invert=ffffffffffffffff\n"); told = prints (bytes "refused=2\nat=6\n") }
+    ∷ record { asked = encode (R "invert=02\n"); told = prints (bytes "refused=13\nat=6\n") }
+    -- R-4: twice, before the chain lines, behind the window line, behind depth, and a text that ends behind it
+    ∷ record { asked = encode (R "invert=2\ninvert=2\n"); told = prints (bytes "refused=13\nat=7\n") }
+    ∷ record { asked = encode (bytes "cells=3\ntaps=6\nchains=2\nchain=1\ninvert=2\n"); told = prints (bytes "refused=13\nat=5\n") }
+    ∷ record { asked = encode (R "window=2\ninvert=2\n"); told = prints (bytes "refused=13\nat=7\n") }
+    ∷ record { asked = expand (R "stop=0x\ninvert=2\n"); told = prints (bytes "refused=13\nat=7\n") }
+    ∷ record { asked = encode (R "invert=2\nwindow=2\n"); told = prints (bytes "refused=13\nat=8\n") }
     -- the sheet's list in a buffer with one byte more, and with one byte less: 71 bytes, 2 seeds
     ∷ record { asked = encode-into 72 (R "depth=2\nslice=10\nslice=x1\nslice=1x\nslice=1x\n"); told = leaves (Text 71 2) (bytes "cells=3\ntaps=6\nchains=2\nchain=1\nchain=4\nstop=0x\nslices=4\nseed=3\nseed=3\n" ++ old 1) }
     ∷ record { asked = encode-into 70 (R "depth=2\nslice=10\nslice=x1\nslice=1x\nslice=1x\n"); told = leaves (Refused (record { number = 9; value = 71 }) 2) (old 70) }
@@ -203,5 +220,5 @@ tolds [] = []
 tolds (r ∷ rs) = r .told ∷ tolds rs
 
 pub worked : answers table ≡ tolds table
-unfolding answers tolds answer of-call ones onesIn within any leastBelow lastBelow digit odd beyond refuse fill step badRegister slice badCount badMask badChains agrees shows paired badSlice badSlices badStop badLimit badSet badCubes badList tests firstOf judged limited callFaults cubesFaults listFaults reach hop ends greedy filter count better choice settle keep setBy advance stage ended equals taken spare spareStop steps stopFor fits quiet covers seedOf before far placed closes seedAt ok slicesOf firstStop ending delivers after adding walk totalled expanding expandList seedsOf planned encoding stopped withStop cubesEncoding encodeCubes starts rows rowAt name keyOf same notation longest most range cause worth digits leadingZero number isCharacter specifiedAt bitAt inFront sliceOf numbered sliced characters valued keyed named formed split runOf moved afterKey missing mayStand among inOrder mayEnd outside outOfRange tested ranged saying endOf reading readingOf picked glyph lastDigits numeral character charactersOf numberLine numberLines sliceLine sliceLines headText listText refusedText listReply slicesReply encoded expanded replyUnder sheetReply seedListReply concluded printed replyTo printedFor answered called callOf
+unfolding answers tolds answer of-call ones onesIn within any leastBelow lastBelow digit odd beyond refuse fill step badRegister slice badCount badMask badChains badChainsOf agrees shows paired badSlice badSlices badStop badLimit badSet badCubes badList tests firstOf judged limited callFaults cubesFaults listFaults reach hop ends greedy filter count better choice settle keep setBy advance stage ended equals taken spare spareStop steps stopFor fits quiet covers seedOf before far placed closes seedAt ok slicesOf firstStop ending delivers after adding walk totalled expanding expandList seedsOf planned encoding stopped withStop cubesEncoding encodeCubes starts rows rowAt name keyOf same notation longest most range cause worth digits leadingZero number isCharacter specifiedAt bitAt inFront sliceOf numbered sliced characters valued keyed named formed split runOf moved afterKey missing mayStand among inOrder mayEnd outside outOfRange tested ranged saying endOf reading readingOf picked glyph lastDigits numeral character charactersOf numberLine numberLines sliceLine sliceLines headText chainsText listText refusedText listReply slicesReply encoded expanded replyUnder sheetReply seedListReply concluded printed replyTo printedFor answered called callOf
 worked = refl

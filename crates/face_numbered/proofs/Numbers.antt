@@ -82,7 +82,7 @@ slice-numbered (verdict.Refused c) s = inr (on-sheet c)
 pub every-numbered : (c : Call) → Numbered (numberIn c)
 unfolding stepCall sliceCall
 every-numbered (seeds-step g s) = state-numbered (firstOf (registerTest g ∷ stateTest (g .cells) s ∷ [])) _
-every-numbered (seeds-slice g masks s) = slice-numbered (firstOf (registerTest g ∷ chainsTest (g .cells) masks ∷ stateTest (g .cells) s ∷ [])) _
+every-numbered (seeds-slice g masks s) = slice-numbered (firstOf (registerTest g ∷ chainsTest g masks ∷ stateTest (g .cells) s ∷ [])) _
 every-numbered (seeds-check-window g masks stop specified bits) = check-numbered (judged (windowFaults g masks stop specified bits))
 every-numbered (seeds-check-set g masks stop specified bits) = check-numbered (judged (setFaults g masks stop specified bits))
 every-numbered (seeds-check-cubes g masks depth specified bits) = check-numbered (judged (cubesFaults g masks depth specified bits))

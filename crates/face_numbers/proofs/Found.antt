@@ -17,11 +17,10 @@ use Rattle.machine_register.specs.declared.Register.{Register}
 use Rattle.machine_register.specs.declared.Made.the-variants as made
 use Rattle.machine_register.proofs.Causes.{cells-within}
 use Rattle.machine_register.proofs.Making.{made-register, made-refused}
-use Rattle.machine_chains.specs.Chains.{badChains}
 use Rattle.machine_chains.proofs.Causes.{chains-within}
 use Rattle.machine_settings.specs.declared.Settings.{Settings}
-use Rattle.machine_settings.specs.Machine.{machine}
-use Rattle.machine_settings.proofs.Machine.{machine-slice, machine-step}
+use Rattle.machine_settings.specs.Machine.{machine, badChainsOf}
+use Rattle.machine_settings.proofs.Machine.{machine-slice, machine-step, chains-parts}
 use Rattle.refusal_order.specs.Order.{firstOf}
 use Rattle.refusal_order.specs.declared.Verdict.{Verdict}
 use Rattle.refusal_order.proofs.Order.{first-here, first-later}
@@ -42,20 +41,20 @@ module _ (g : Settings) (masks : List ℕ) (s : ℕ) where
   abbrev found : Verdict → SliceAnswer
   found v = sliceAnswer v (machine g masks .slice s)
 
-  pub bad-chains : badChains (g .cells) masks ≡ true → noSlice cause.Chains ≡ sliceFound g masks s
+  pub bad-chains : badChainsOf g masks ≡ true → noSlice cause.Chains ≡ sliceFound g masks s
   unfolding sliceFound
-  bad-chains h = sym (ap found (first-here (chainsTest (g .cells) masks) (stateTest (g .cells) s ∷ []) h))
+  bad-chains h = sym (ap found (first-here (chainsTest g masks) (stateTest (g .cells) s ∷ []) h))
 
-  module _ (lawful : badChains (g .cells) masks ≡ false) where
+  module _ (lawful : badChainsOf g masks ≡ false) where
     pub beyond-slice : beyond (g .cells) s ≡ true → noSlice (cause.SeedBeyond 0) ≡ sliceFound g masks s
     unfolding sliceFound
-    beyond-slice h = sym (ap found (first-later (chainsTest (g .cells) masks) (stateTest (g .cells) s ∷ []) lawful ∙ first-here (stateTest (g .cells) s) [] h))
+    beyond-slice h = sym (ap found (first-later (chainsTest g masks) (stateTest (g .cells) s ∷ []) lawful ∙ first-here (stateTest (g .cells) s) [] h))
 
     pub within-slice : beyond (g .cells) s ≡ false → record { number = 0; value = 0; slice = machine g (take 64 masks) .slice s } ≡ sliceFound g masks s
     unfolding sliceFound firstOf
     within-slice h =
-        rw (machine-slice g masks s (chains-within (g .cells) masks lawful .1))
-        (sym (ap found (first-later (chainsTest (g .cells) masks) (stateTest (g .cells) s ∷ []) lawful ∙ first-later (stateTest (g .cells) s) [] h)))
+        rw (machine-slice g masks s (chains-within (g .cells) masks (chains-parts g masks lawful .0) .1))
+        (sym (ap found (first-later (chainsTest g masks) (stateTest (g .cells) s ∷ []) lawful ∙ first-later (stateTest (g .cells) s) [] h)))
 
 module _ (g : Settings) (s : ℕ) where
   pub made-step : (r : Register) → madeOf (g .cells) (g .taps) ≡ made.Register r → stepFound r s ≡ stepCall g s
@@ -72,8 +71,8 @@ module _ (g : Settings) (s : ℕ) where
   module _ (masks : List ℕ) where
     pub lawful-slice : badRegister (g .cells) (g .taps) ≡ false → sliceFound g masks s ≡ sliceCall g masks s
     unfolding sliceFound sliceCall
-    lawful-slice h = rw (first-later (registerTest g) (chainsTest (g .cells) masks ∷ stateTest (g .cells) s ∷ []) h)
+    lawful-slice h = rw (first-later (registerTest g) (chainsTest g masks ∷ stateTest (g .cells) s ∷ []) h)
 
     pub refused-slice : badRegister (g .cells) (g .taps) ≡ true → noSlice cause.Register ≡ sliceCall g masks s
     unfolding sliceCall
-    refused-slice h = rw (first-here (registerTest g) (chainsTest (g .cells) masks ∷ stateTest (g .cells) s ∷ []) h)
+    refused-slice h = rw (first-here (registerTest g) (chainsTest g masks ∷ stateTest (g .cells) s ∷ []) h)

@@ -16,4 +16,4 @@ unfoldable pub stepFound : Register → ℕ → StateAnswer
 stepFound r s = stateAnswer (firstOf (stateTest (r .cells) s ∷ [])) (stepOf r s)
 
 unfoldable pub sliceFound : Settings → List ℕ → ℕ → SliceAnswer
-sliceFound g masks s = sliceAnswer (firstOf (chainsTest (g .cells) masks ∷ stateTest (g .cells) s ∷ [])) (machine g masks .slice s)
+sliceFound g masks s = sliceAnswer (firstOf (chainsTest g masks ∷ stateTest (g .cells) s ∷ [])) (machine g masks .slice s)

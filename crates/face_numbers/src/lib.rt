@@ -89,7 +89,7 @@ pub fn step(settings: Settings, state: u64) -> StateAnswer
 fn slice_found(settings: machine_settings::Settings, masks: &[u64], state: u64) -> SliceAnswer
     ensures { λ r. ⌜ r ≡ sliceFound settings (now (masks .entry)) state ⌝ }
 {
-    if machine_chains::bad_chains(settings.cells, masks) {
+    if machine_settings::bad_chains(settings, masks) {
         return no_slice(Cause::Chains);
     }
     if words_gf2::beyond(settings.cells, state) {

@@ -3,7 +3,7 @@
 --     slice-formed, stop-slice     what causes 4 and 5 do not refuse is so
 --     paired-take, paired-drop     the test slices of the first and of the last entries
 --     slices-length, slices-at     well-formed slices are as many as their specified positions; the one at a place
---     slices-all            none of the test slices is bad
+--     slices-all, all-slices     none of the test slices is bad; and then they are well-formed
 --     slices-each           nor is that at a place
 --     slices-take, slices-drop     the first and the last of well-formed slices are well-formed
 -- Assumes nothing.
@@ -71,7 +71,7 @@ module _ (chains : ℕ) where
   unfolding badSlices
   slices-all ps bs b = neither (not (eqb (length ps) (length bs))) (any (badSlice chains) (paired ps bs)) b .1
 
-  all-slices : (ps bs : List ℕ) → length ps ≡ length bs → any (badSlice chains) (paired ps bs) ≡ false → badSlices chains ps bs ≡ false
+  pub all-slices : (ps bs : List ℕ) → length ps ≡ length bs → any (badSlice chains) (paired ps bs) ≡ false → badSlices chains ps bs ≡ false
   unfolding badSlices
   all-slices ps bs e a = rw (eq-eqb (length ps) (length bs) e) a
 

@@ -1,6 +1,6 @@
 -- What the checks of a call with settings leave.
 --     limit-bad, limit-good     cause 3 where the limit is refused; where it is not, the lengths of the call decide
---     CallFormed g masks l s t  none of causes 1 to 5 holds; so there are at most 64 chains, and the limit is at most the greatest
+--     CallFormed g masks l s t  none of causes 1 to 5 holds; so there are at most 64 chains, the inverted ones are among them, and the limit is at most the greatest
 --     call-formed, formed-call  the checks leave it, and only then; l, s and t are what the call says of its lengths, slices and stop slice
 --     window-formed, set-formed, cubes-formed, list-formed     the same of each kind of call
 -- Assumes nothing.
@@ -14,6 +14,9 @@ use Rattle.machine_settings.specs.declared.Settings.{Settings}
 use Rattle.machine_register.specs.Register.{badRegister}
 use Rattle.machine_chains.specs.Chains.{badChains}
 use Rattle.machine_chains.proofs.Causes.{chains-within}
+use Rattle.machine_settings.specs.Machine.{badChainsOf}
+use Rattle.machine_settings.proofs.Machine.{chains-good, chains-parts}
+use Rattle.words_gf2.specs.Words.{beyond}
 use Rattle.machine_slices.specs.declared.TestSlice.{TestSlice}
 use Rattle.machine_slices.specs.Slices.{badSlices, badStop}
 use Rattle.refusal_lengths.specs.Lengths.{mostLimit, badLimit, badWindow, badSet, badCubes, badList}
@@ -39,6 +42,7 @@ module _ (g : Settings) (lengths : Bool) where
 pub record CallFormed (g : Settings) (masks : List ℕ) (l s t : Bool) : Type 0 where
   pub register : badRegister (g .cells) (g .taps) ≡ false
   pub chains : badChains (g .cells) masks ≡ false
+  pub invert : beyond (length masks) (g .invert) ≡ false
   pub few : length masks ≤ 64
   pub limit : badLimit (g .limit) ≡ false
   pub most : g .limit ≤ mostLimit
@@ -52,10 +56,12 @@ module _ (g : Settings) (masks : List ℕ) where
   call-formed l s t w =
       let f = formed-well (callFaults g masks l s t) w in
       let p = limited-parts g l (f .lengths) in
+      let q = chains-parts g masks (f .chains) in
       record {
         register = f .register;
-        chains = f .chains;
-        few = chains-within (g .cells) masks (f .chains) .1;
+        chains = q .0;
+        invert = q .1;
+        few = chains-within (g .cells) masks (q .0) .1;
         limit = p .0;
         most = limit-within (g .limit) (p .0) .1;
         lengths = p .1;
@@ -63,12 +69,12 @@ module _ (g : Settings) (masks : List ℕ) where
         stop = f .stop;
       }
 
-  pub formed-call : (l s t : Bool) → badRegister (g .cells) (g .taps) ≡ false → badChains (g .cells) masks ≡ false → badLimit (g .limit) ≡ false → l ≡ false → s ≡ false → t ≡ false
+  pub formed-call : (l s t : Bool) → badRegister (g .cells) (g .taps) ≡ false → badChains (g .cells) masks ≡ false → beyond (length masks) (g .invert) ≡ false → badLimit (g .limit) ≡ false → l ≡ false → s ≡ false → t ≡ false
       → judged (callFaults g masks l s t) ≡ WellFormed
   unfolding callFaults
-  formed-call l s t register chains limit lengths slices stop = well-formed (callFaults g masks l s t) (record {
+  formed-call l s t register chains invert limit lengths slices stop = well-formed (callFaults g masks l s t) (record {
     register = register;
-    chains = chains;
+    chains = chains-good g masks chains ∙ invert;
     lengths = limit-good g l limit ∙ lengths;
     slices = slices;
     stop = stop;

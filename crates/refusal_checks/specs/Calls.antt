@@ -11,8 +11,9 @@ use mathlib.Core.List.{List}
 use Prim.Native.Nat.{ℕ}
 use lib.ListN.{length}
 use Rattle.machine_settings.specs.declared.Settings.{Settings}
+use Rattle.machine_settings.specs.Machine.{badChainsOf}
 use Rattle.machine_register.specs.Register.{badRegister}
-use Rattle.machine_chains.specs.Chains.{badCount, badChains}
+use Rattle.machine_chains.specs.Chains.{badCount}
 use Rattle.machine_slices.specs.declared.TestSlice.{TestSlice}
 use Rattle.machine_slices.specs.Slices.{badSlices, badStop}
 use Rattle.refusal_lengths.specs.Lengths.{badLimit, badWindow, badSet, badCubes, badList}
@@ -21,11 +22,11 @@ use Rattle.refusal_order.specs.declared.Faults.{Faults}
 unfoldable pub limited : Settings → Bool → Bool
 limited g lengths = badLimit (g .limit) || lengths
 
--- The register, the chains and the limit of every call with settings are judged here.
+-- The register, the chains, the inverted ones and the limit of every call with settings are judged here.
 unfoldable pub callFaults : Settings → List ℕ → Bool → Bool → Bool → Faults
 callFaults g masks lengths slices stop = record {
   register = badRegister (g .cells) (g .taps);
-  chains = badChains (g .cells) masks;
+  chains = badChainsOf g masks;
   lengths = limited g lengths;
   slices = slices;
   stop = stop;

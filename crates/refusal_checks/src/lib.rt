@@ -23,7 +23,7 @@ fn check_call(settings: Settings, masks: &[u64], lengths: bool, slices: bool, st
 {
     refusal_order::judge(Faults {
         register: machine_register::bad_register(settings.cells, settings.taps),
-        chains: machine_chains::bad_chains(settings.cells, masks),
+        chains: machine_settings::bad_chains(settings, masks),
         lengths: bad_lengths(settings, lengths),
         slices,
         stop,

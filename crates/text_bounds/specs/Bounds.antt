@@ -20,8 +20,8 @@ use Rattle.text_order.specs.declared.Kind.{Kind}
 use Rattle.text_order.specs.declared.Kind.the-variants.{Sheet, SeedList}
 
 unfoldable pub sequence : Kind → List Key
-sequence Sheet = key.Cells ∷ key.Taps ∷ key.Chains ∷ key.Chain ∷ key.Window ∷ key.Depth ∷ key.Slice ∷ []
-sequence SeedList = key.Cells ∷ key.Taps ∷ key.Chains ∷ key.Chain ∷ key.Window ∷ key.Stop ∷ key.Slices ∷ key.Seed ∷ []
+sequence Sheet = key.Cells ∷ key.Taps ∷ key.Chains ∷ key.Chain ∷ key.Invert ∷ key.Window ∷ key.Depth ∷ key.Slice ∷ []
+sequence SeedList = key.Cells ∷ key.Taps ∷ key.Chains ∷ key.Chain ∷ key.Invert ∷ key.Window ∷ key.Stop ∷ key.Slices ∷ key.Seed ∷ []
 
 unfoldable pub sumOf : (Key → ℕ) → List Key → ℕ
 sumOf c [] = 0

@@ -36,8 +36,8 @@ concluded-within most (scanned.Refused c) r w = tt
 
 reply-within : (kind : Kind) (s : List ℕ) → Within mostText (replyTo kind s)
 unfolding replyTo sheetReply replyUnder encoded seedListReply expanded
-reply-within Sheet s = concluded-within mostText (readingOf Sheet s .end) _ (list-within _ _ _ _ _ (omega (arith, head-room (readingOf Sheet s .entries) (few-numbers Sheet s .0) (few-numbers Sheet s .1))) (few-numbers Sheet s .0) (encode-long _ _ _ _ _ lent))
-reply-within SeedList s = concluded-within mostText (readingOf SeedList s .end) _ (slices-within _ _ _ (few-numbers SeedList s .0) (expand-long _ _ _ _ _ lent))
+reply-within Sheet s = concluded-within mostText (readingOf Sheet s .end) _ (list-within _ _ _ _ _ (omega (arith, head-room (readingOf Sheet s .entries) (few-numbers Sheet s))) (few-numbers Sheet s .masks) (encode-long _ _ _ _ _ lent))
+reply-within SeedList s = concluded-within mostText (readingOf SeedList s .end) _ (slices-within _ _ _ (few-numbers SeedList s .masks) (expand-long _ _ _ _ _ lent))
 
 module _ (kind : Kind) (s out : List ℕ) (h : mostText ≤ length out) (a : Answer) (mid after : List ℕ) (count : ℕ) (c : count ≡ shown a mid .count) (b : after ≡ shown a mid .buffer) where
   pub call-prints : a ≡ callOf kind s out .answer → mid ≡ callOf kind s out .buffer → Prints (printedFor kind s) out count after

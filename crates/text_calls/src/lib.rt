@@ -3,11 +3,8 @@ use text_ending::Scanned;
 use text_order::Kind;
 use text_replies::Answer;
 ghost use mathlib.Core.Path.{_≡_};
-ghost use Prim.Native.Nat.{_≤_};
-ghost use lib.ListN.{length};
-ghost use Rattle.text_keys.specs.declared.Key.the-variants as key;
 ghost use Rattle.text_entries.specs.Flat.{entriesIn};
-ghost use Rattle.text_entries.specs.Said.{numbersFor};
+ghost use Rattle.text_entries.specs.Said.{Few};
 ghost use Rattle.text_replies.specs.Calls.{called};
 ghost use Rattle.text_calls.specs.Texts.{replyOf, callOf};
 
@@ -15,11 +12,11 @@ ghost use Rattle.text_calls.specs.Texts.{replyOf, callOf};
 const NO_KEY: u64 = text_keys::COUNT as u64;
 
 // The numbers of all lines that a text can have, three a line.
-const MOST_NUMBERS: usize = 6354;
+const MOST_NUMBERS: usize = 6357;
 
 // The answer to what the entries of a text say.
 fn answer_entries(kind: Kind, entries: &[u64], out: &mut [u8]) -> Answer
-    requires { ⌜ (length (numbersFor key.Chain (entriesIn (now entries))) ≤ 64) × (length (numbersFor key.Window (entriesIn (now entries))) ≤ 1) × (length (numbersFor key.Slice (entriesIn (now entries))) ≤ 2048) × (length (numbersFor key.Seed (entriesIn (now entries))) ≤ 2048) ⌝ }
+    requires { ⌜ Few (entriesIn (now entries)) ⌝ }
     ensures answer { λ r. ⌜ r ≡ called (replyOf kind (entriesIn (now (entries .entry)))) (now (out .entry)) .answer ⌝ }
     ensures buffer { λ _. ⌜ now (out .exit) ≡ called (replyOf kind (entriesIn (now (entries .entry)))) (now (out .entry)) .buffer ⌝ }
 {

@@ -6,32 +6,35 @@ ghost use mathlib.Core.Path.{_≡_};
 ghost use Prim.Native.Nat.{_≤_};
 ghost use lib.ListN.{length};
 ghost use Rattle.text_entries.specs.Flat.{entriesIn};
-ghost use Rattle.text_entries.specs.Said.{masksOf, windowsOf};
+ghost use Rattle.text_entries.specs.Said.{Few};
 ghost use Rattle.text_write_bytes.specs.Stored.{Stored};
-ghost use Rattle.text_encode.specs.Sheet.{specifiedOf, headOf, replyUnder, sheetReply};
+ghost use Rattle.text_encode.specs.Sheet.{headOf, replyUnder, sheetReply};
 ghost use Rattle.text_replies.specs.Calls.{called};
 
 // Writes the lines that the list of a sheet repeats.
 fn write_head(entries: &[u64], head: &mut [u8]) -> usize
-    requires { ⌜ (length (masksOf (entriesIn (now entries))) ≤ 64) × (length (windowsOf (entriesIn (now entries))) ≤ 1) ⌝ }
+    requires { ⌜ Few (entriesIn (now entries)) ⌝ }
     ensures { λ r. ⌜ Stored (now (head .entry)) 0 (headOf (entriesIn (now (entries .entry)))) (now (head .exit)) r ⌝ }
 {
     let mut masks = [0u64; machine_chains::MOST_CHAINS];
+    let mut inverts = [0u64; 1];
     let mut windows = [0u64; 1];
     let chains = text_entries::numbers(entries, Key::Chain, Part::First, &mut masks);
+    let inverted = text_entries::numbers(entries, Key::Invert, Part::First, &mut inverts);
     let limits = text_entries::numbers(entries, Key::Window, Part::First, &mut windows);
     text_write_head::put_head(
         head,
         0,
         text_entries::settings(entries),
         &masks[..chains],
+        &inverts[..inverted],
         &windows[..limits],
     )
 }
 
 // Encodes what the entries of a sheet say, under the lines that its list repeats.
 fn encode_under(head: &[u8], entries: &[u64], out: &mut [u8]) -> Answer
-    requires { ⌜ (length (now head) ≤ 65536) × (length (masksOf (entriesIn (now entries))) ≤ 64) × (length (specifiedOf (entriesIn (now entries))) ≤ 2048) ⌝ }
+    requires { ⌜ (length (now head) ≤ 65536) × Few (entriesIn (now entries)) ⌝ }
     ensures answer { λ r. ⌜ r ≡ called (replyUnder (now (head .entry)) (entriesIn (now (entries .entry)))) (now (out .entry)) .answer ⌝ }
     ensures buffer { λ _. ⌜ now (out .exit) ≡ called (replyUnder (now (head .entry)) (entriesIn (now (entries .entry)))) (now (out .entry)) .buffer ⌝ }
 {
@@ -54,9 +57,9 @@ fn encode_under(head: &[u8], entries: &[u64], out: &mut [u8]) -> Answer
 }
 
 // Encodes what the entries of a sheet say.
-// An inner function: its callers show that there are at most 64 chain lines, 1 window line and 2,048 slice lines.
+// An inner function: its callers show that there are no more lines than a text can have accepted.
 pub fn encode_entries(entries: &[u64], out: &mut [u8]) -> Answer
-    requires { ⌜ (length (masksOf (entriesIn (now entries))) ≤ 64) × (length (windowsOf (entriesIn (now entries))) ≤ 1) × (length (specifiedOf (entriesIn (now entries))) ≤ 2048) ⌝ }
+    requires { ⌜ Few (entriesIn (now entries)) ⌝ }
     ensures answer { λ r. ⌜ r ≡ called (sheetReply (entriesIn (now (entries .entry)))) (now (out .entry)) .answer ⌝ }
     ensures buffer { λ _. ⌜ now (out .exit) ≡ called (sheetReply (entriesIn (now (entries .entry)))) (now (out .entry)) .buffer ⌝ }
 {

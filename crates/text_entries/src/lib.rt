@@ -1,4 +1,5 @@
 // What the lines of a text say, kept in one list of numbers (document 01, "Sheet and seed list"): for each line the rank of its key and its two numbers, one line after another. What a text says for a key is picked from it afterwards.
+use machine_settings::NONE_INVERTED;
 use machine_settings::Settings;
 use text_keys::Key;
 use text_lines::Entry;
@@ -85,9 +86,11 @@ pub fn settings(entries: &[u64]) -> Settings
     let cells = number(entries, Key::Cells, Part::First, 0);
     let taps = number(entries, Key::Taps, Part::First, 0);
     let limit = number(entries, Key::Window, Part::First, DEFAULT_LIMIT);
+    let invert = number(entries, Key::Invert, Part::First, NONE_INVERTED);
     Settings {
         cells: cells as usize,
         taps,
         limit: limit as usize,
+        invert,
     }
 }

@@ -4,18 +4,15 @@ use text_entries::Part;
 use text_keys::Key;
 use text_replies::Answer;
 ghost use mathlib.Core.Path.{_≡_};
-ghost use Prim.Native.Nat.{_≤_};
-ghost use lib.ListN.{length};
-ghost use Rattle.text_keys.specs.declared.Key.the-variants as key;
 ghost use Rattle.text_entries.specs.Flat.{entriesIn};
-ghost use Rattle.text_entries.specs.Said.{numbersFor};
+ghost use Rattle.text_entries.specs.Said.{Few};
 ghost use Rattle.text_expand.specs.List.{seedListReply};
 ghost use Rattle.text_replies.specs.Calls.{called};
 
 // Expands what the entries of a seed list say.
-// An inner function: its callers show that there are at most 64 chain lines and 2,048 seed lines.
+// An inner function: its callers show that there are no more lines than a text can have accepted.
 pub fn expand_entries(entries: &[u64], out: &mut [u8]) -> Answer
-    requires { ⌜ (length (numbersFor key.Chain (entriesIn (now entries))) ≤ 64) × (length (numbersFor key.Seed (entriesIn (now entries))) ≤ 2048) ⌝ }
+    requires { ⌜ Few (entriesIn (now entries)) ⌝ }
     ensures answer { λ r. ⌜ r ≡ called (seedListReply (entriesIn (now (entries .entry)))) (now (out .entry)) .answer ⌝ }
     ensures buffer { λ _. ⌜ now (out .exit) ≡ called (seedListReply (entriesIn (now (entries .entry)))) (now (out .entry)) .buffer ⌝ }
 {

@@ -31,6 +31,7 @@ placed key.Cells = record { within = omega arith; key = refl }
 placed key.Taps = record { within = omega arith; key = refl }
 placed key.Chains = record { within = omega arith; key = refl }
 placed key.Chain = record { within = omega arith; key = refl }
+placed key.Invert = record { within = omega arith; key = refl }
 placed key.Window = record { within = omega arith; key = refl }
 placed key.Depth = record { within = omega arith; key = refl }
 placed key.Slice = record { within = omega arith; key = refl }

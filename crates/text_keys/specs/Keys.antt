@@ -22,7 +22,7 @@ use Rattle.text_keys.specs.declared.Key.the-variants as key
 use Rattle.text_keys.specs.declared.Notation.{Notation}
 use Rattle.text_keys.specs.declared.Notation.the-variants.{Decimal, Hexadecimal, Chainwise}
 use Rattle.text_keys.specs.declared.Range.{Range}
-use Rattle.text_keys.specs.declared.Range.the-variants.{Between, Taps, Mask, Specified, Any}
+use Rattle.text_keys.specs.declared.Range.the-variants.{Between, Taps, Mask, Inverted, Specified, Any}
 use Rattle.text_keys.specs.declared.LineCause.{LineCause}
 use Rattle.text_keys.specs.declared.LineCause.the-variants.{Register, Chains, Lengths, StopSlice}
 use Rattle.text_keys.specs.declared.Spelling.{Spelling}
@@ -47,6 +47,7 @@ rows =
     ∷ row key.Taps "taps=" Hexadecimal 80 1 Taps Register
     ∷ row key.Chains "chains=" Decimal 80 1 (Between 1 64) Chains
     ∷ row key.Chain "chain=" Hexadecimal 80 64 Mask Chains
+    ∷ row key.Invert "invert=" Hexadecimal 80 1 Inverted Chains
     ∷ row key.Window "window=" Decimal 80 1 (Between 1 256) Lengths
     ∷ row key.Depth "depth=" Decimal 80 1 (Between 1 256) Lengths
     ∷ row key.Slice "slice=" Chainwise 80 2048 Any Lengths
@@ -56,7 +57,7 @@ rows =
     ∷ []
 
 abbrev pub count : ℕ
-count = 10
+count = 11
 
 abbrev pub blank : Row
 blank = row key.Cells "" Decimal 0 0 Any Lengths
@@ -69,12 +70,13 @@ rank key.Cells = 0
 rank key.Taps = 1
 rank key.Chains = 2
 rank key.Chain = 3
-rank key.Window = 4
-rank key.Depth = 5
-rank key.Slice = 6
-rank key.Stop = 7
-rank key.Slices = 8
-rank key.Seed = 9
+rank key.Invert = 4
+rank key.Window = 5
+rank key.Depth = 6
+rank key.Slice = 7
+rank key.Stop = 8
+rank key.Slices = 9
+rank key.Seed = 10
 
 abbrev pub rowOf : Key → Row
 rowOf k = rowAt (rank k)

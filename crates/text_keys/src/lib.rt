@@ -9,6 +9,7 @@ pub enum Key {
     Taps,
     Chains,
     Chain,
+    Invert,
     Window,
     Depth,
     Slice,
@@ -32,6 +33,8 @@ pub enum Range {
     Taps,
     // A mask of its cells.
     Mask,
+    // A mask of the chains that were read.
+    Inverted,
     // Some specified position.
     Specified,
     // All.
@@ -44,7 +47,7 @@ pub enum LineCause {
     Form,
     // Cause 1: cells or taps.
     Register,
-    // Cause 2: chains or a mask.
+    // Cause 2: chains, a mask, or inverted chains.
     Chains,
     // Cause 3: window, depth or slices, or a slice or seed line too many.
     Lengths,
@@ -65,13 +68,14 @@ const MOST_LIMIT: usize = 256;
 const MOST_DEPTH: usize = 256;
 
 // How many keys there are.
-pub const COUNT: usize = 10;
+pub const COUNT: usize = 11;
 
 const SPELLINGS: [Spelling; COUNT] = [
     Spelling(Key::Cells, *b"cells= ", 6, Notation::Decimal, 80),
     Spelling(Key::Taps, *b"taps=  ", 5, Notation::Hexadecimal, 80),
     Spelling(Key::Chains, *b"chains=", 7, Notation::Decimal, 80),
     Spelling(Key::Chain, *b"chain= ", 6, Notation::Hexadecimal, 80),
+    Spelling(Key::Invert, *b"invert=", 7, Notation::Hexadecimal, 80),
     Spelling(Key::Window, *b"window=", 7, Notation::Decimal, 80),
     Spelling(Key::Depth, *b"depth= ", 6, Notation::Decimal, 80),
     Spelling(Key::Slice, *b"slice= ", 6, Notation::Chainwise, 80),
@@ -85,6 +89,7 @@ const BOUNDS: [Bounds; COUNT] = [
     Bounds(1, Range::Taps, LineCause::Register),
     Bounds(1, Range::Between(1, 64), LineCause::Chains),
     Bounds(64, Range::Mask, LineCause::Chains),
+    Bounds(1, Range::Inverted, LineCause::Chains),
     Bounds(1, Range::Between(1, MOST_LIMIT), LineCause::Lengths),
     Bounds(1, Range::Between(1, MOST_DEPTH), LineCause::Lengths),
     Bounds(2048, Range::Any, LineCause::Lengths),
@@ -102,12 +107,13 @@ pub fn rank(key: Key) -> usize
         Key::Taps => 1,
         Key::Chains => 2,
         Key::Chain => 3,
-        Key::Window => 4,
-        Key::Depth => 5,
-        Key::Slice => 6,
-        Key::Stop => 7,
-        Key::Slices => 8,
-        Key::Seed => 9,
+        Key::Invert => 4,
+        Key::Window => 5,
+        Key::Depth => 6,
+        Key::Slice => 7,
+        Key::Stop => 8,
+        Key::Slices => 9,
+        Key::Seed => 10,
     }
 }
 

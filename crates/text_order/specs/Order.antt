@@ -1,4 +1,4 @@
--- The order of lines (document 01, "Sheet and seed list"; document 02, R-3).
+-- The order of lines (document 01, "Sheet and seed list"; document 02, R-3 and R-4).
 --     after kind k         the keys that may stand after the lines of the key k
 --     missing p            chain lines are missing
 --     mayStand kind p      the keys that may stand at the place p
@@ -16,19 +16,21 @@ use Rattle.text_order.specs.declared.Kind.{Kind}
 use Rattle.text_order.specs.declared.Kind.the-variants.{Sheet, SeedList}
 use Rattle.text_place.specs.declared.Place.{Place}
 
--- One window line may follow the chain lines (document 02, R-3). A sheet has depth and then slice lines, a seed list stop and slices and then seed lines; any number of them.
+-- One invert line and then one window line may follow the chain lines (document 02, R-4 and R-3). A sheet has depth and then slice lines, a seed list stop and slices and then seed lines; any number of them.
 unfoldable pub after : Kind → Key → List Key
 after kind key.Cells = key.Taps ∷ []
 after kind key.Taps = key.Chains ∷ []
 after kind key.Chains = key.Chain ∷ []
-after Sheet key.Chain = key.Window ∷ key.Depth ∷ []
+after Sheet key.Chain = key.Invert ∷ key.Window ∷ key.Depth ∷ []
+after Sheet key.Invert = key.Window ∷ key.Depth ∷ []
 after Sheet key.Window = key.Depth ∷ []
 after Sheet key.Depth = key.Slice ∷ []
 after Sheet key.Slice = key.Slice ∷ []
 after Sheet key.Stop = []
 after Sheet key.Slices = []
 after Sheet key.Seed = []
-after SeedList key.Chain = key.Window ∷ key.Stop ∷ []
+after SeedList key.Chain = key.Invert ∷ key.Window ∷ key.Stop ∷ []
+after SeedList key.Invert = key.Window ∷ key.Stop ∷ []
 after SeedList key.Window = key.Stop ∷ []
 after SeedList key.Depth = []
 after SeedList key.Slice = []

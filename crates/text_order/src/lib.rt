@@ -21,17 +21,19 @@ const CHAINS: u64 = 1 << 2;
 
 const CHAIN: u64 = 1 << 3;
 
-const WINDOW: u64 = 1 << 4;
+const INVERT: u64 = 1 << 4;
 
-const DEPTH: u64 = 1 << 5;
+const WINDOW: u64 = 1 << 5;
 
-const SLICE: u64 = 1 << 6;
+const DEPTH: u64 = 1 << 6;
 
-const STOP: u64 = 1 << 7;
+const SLICE: u64 = 1 << 7;
 
-const SLICES: u64 = 1 << 8;
+const STOP: u64 = 1 << 8;
 
-const SEED: u64 = 1 << 9;
+const SLICES: u64 = 1 << 9;
+
+const SEED: u64 = 1 << 10;
 
 // The keys that may stand after the lines of a key, in a sheet and in a seed list; a row a key, as in the table of keys.
 pub struct Followers(pub u64, pub u64);
@@ -40,6 +42,7 @@ const AFTER: [Followers; text_keys::COUNT] = [
     Followers(TAPS, TAPS),
     Followers(CHAINS, CHAINS),
     Followers(CHAIN, CHAIN),
+    Followers(INVERT | WINDOW | DEPTH, INVERT | WINDOW | STOP),
     Followers(WINDOW | DEPTH, WINDOW | STOP),
     Followers(DEPTH, STOP),
     Followers(SLICE, 0),

@@ -11,7 +11,7 @@ ghost use Rattle.text_calls.specs.Texts.{replyTo, printedFor};
 ghost use Rattle.text_meaning.specs.Calls.{ReplyMeaning};
 
 // The bytes of the input that can decide the answer.
-pub const LONGEST_INPUT: usize = 169521;
+pub const LONGEST_INPUT: usize = 169601;
 
 // The bytes of the longest answer.
 pub const LONGEST_OUTPUT: usize = 145408;

@@ -10,6 +10,7 @@ use mathlib.Core.List.{List}
 use Prim.Native.Nat.{ℕ}
 use lib.Dec.{leb, eqb}
 use Rattle.words_bounded.specs.Bounded.{within}
+use Rattle.words_gf2.specs.Words.{beyond}
 use Rattle.machine_register.specs.Register.{badRegister}
 use Rattle.machine_chains.specs.Chains.{badMask}
 use Rattle.text_keys.specs.Keys.{most, range, cause}
@@ -30,6 +31,7 @@ unfoldable pub outside : Place → Range → ℕ → Bool
 outside p (ranges.Between least greatest) v = not (within least greatest v)
 outside p ranges.Taps v = badRegister (p .cells) v
 outside p ranges.Mask v = badMask (p .cells) v
+outside p ranges.Inverted v = beyond (p .chains) v
 outside p ranges.Specified v = eqb v 0
 outside p ranges.Any v = false
 

@@ -18,6 +18,7 @@ fn outside(place: Place, range: Range, v: u64) -> bool
         Range::Between(least, most) => !words_bounded::within(least, most, v as usize),
         Range::Taps => machine_register::bad_register(place.cells, v),
         Range::Mask => machine_chains::bad_mask(place.cells, v),
+        Range::Inverted => words_gf2::beyond(place.chains, v),
         Range::Specified => v == 0,
         Range::Any => false,
     }

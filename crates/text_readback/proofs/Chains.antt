@@ -4,13 +4,12 @@
 --     Held p                 what holds at every such place: no more than the chains line says
 --     held-start             it holds before the first line
 --     Stepped p k v          after a line with the key k and the number v it holds again, and a chain line counts
---     taps-step .. window-step     for each line that may follow another
+--     taps-step .. optional-step     for each line that may follow another
 --     accepted-steps         for every accepted line before depth
 --     depth-counted          where depth may stand, there are as many as the chains line says
 -- Assumes nothing.
-use mathlib.Core.Bool.{Bool, true, false, _||_}
+use mathlib.Core.Bool.{Bool, true, false}
 use mathlib.Core.Path.{_≡_, refl, sym, subst, _∙_}
-use mathlib.Core.List.{[], _∷_}
 use Prim.Native.Nat.{ℕ, _+_, _≤_, _<_}
 use native.Mathlib.Omega.{arith}
 use borrow.Author.Tests.{eqb-true, ltb-true, ltb-false, not-false}
@@ -25,7 +24,7 @@ use Rattle.text_lines.specs.declared.Entry.{Entry}
 use Rattle.text_order.specs.Order.{after, missing, among, inOrder}
 use Rattle.text_order.specs.declared.Kind.the-variants.{Sheet}
 use Rattle.text_order.proofs.Standing.{missing-more, stand-first, stand-chain, stand-after, among-one}
-use Rattle.text_order.proofs.Heads.{head}
+use Rattle.text_order.proofs.Heads.{optional, optional-each, optional-next, head}
 use Rattle.text_place.specs.Places.{start, runOf, moved}
 use Rattle.text_place.specs.declared.Place.{Place}
 use Rattle.text_ranges.specs.Ranges.{outside}
@@ -38,6 +37,7 @@ hadOf key.Cells run chains = 0
 hadOf key.Taps run chains = 0
 hadOf key.Chains run chains = 0
 hadOf key.Chain run chains = run
+hadOf key.Invert run chains = chains
 hadOf key.Window run chains = chains
 hadOf key.Depth run chains = chains
 hadOf key.Slice run chains = chains
@@ -86,33 +86,30 @@ module _ (r c d v : ℕ) where
   unfolding head among same had hadOf isChain moved runOf
   chain-step h = record { held = record { heads = refl; first = λ z. absurd (omega arith); counted = omega arith; some = λ e. absurd (clash false e refl) }; more = omega arith }
 
-  window-step : r ≡ d → Stepped (placeAt key.Chain r c d) key.Window v
+  -- A line behind the chain lines.
+  optional-step : (j k : Key) → optional k ≡ true → had (placeAt j r c d) ≡ d → Stepped (placeAt j r c d) k v
   unfolding head among same had hadOf isChain moved
-  window-step h = record { held = record { heads = refl; first = λ z. absurd (omega arith); counted = omega arith; some = λ e. absurd (clash false e refl) }; more = omega arith }
+  optional-step j k o h =
+      optional-each (λ i. Stepped (placeAt j r c d) i v)
+      (record { held = record { heads = refl; first = λ z. absurd (omega arith); counted = omega arith; some = λ e. absurd (clash false e refl) }; more = omega arith })
+      (record { held = record { heads = refl; first = λ z. absurd (omega arith); counted = omega arith; some = λ e. absurd (clash false e refl) }; more = omega arith })
+      k o
 
 -- After all chain lines.
 all-chains : (r c d : ℕ) → missing (placeAt key.Chain r c d) ≡ false → Held (placeAt key.Chain r c d) → r ≡ d
 unfolding had hadOf same
 all-chains r c d m h = omega (arith, ltb-false r d (sym (missing-more (placeAt key.Chain r c d) refl) ∙ m), h .counted)
 
--- Behind the chain lines, the only line before depth.
-behind-chains : (k : Key) → among k (key.Window ∷ key.Depth ∷ []) ≡ true → head k ≡ true → k ≡ key.Window
-unfolding among head same
-behind-chains k a h = go (same k key.Window) refl a
-  where
-    go : (b : Bool) → same k key.Window ≡ b → (b || (same k key.Depth || false)) ≡ true → k ≡ key.Window
-    go true s a = same-is k key.Window s
-    go false s a = absurd (clash (head k) h (rw (among-one k key.Depth a) refl))
-
 after-steps : (j k : Key) (r c d v : ℕ) → among k (after Sheet j) ≡ true → head k ≡ true → missing (placeAt j r c d) ≡ false → Held (placeAt j r c d) → outside (placeAt j r c d) (range k) v ≡ false → Stepped (placeAt j r c d) k v
-unfolding after head among same outside range rowAt rows
+unfolding after head optional among same outside range rowAt rows had hadOf
 after-steps key.Cells k r c d v a h m i o = rw (among-one k key.Taps a) (taps-step r c d v)
 after-steps key.Taps k r c d v a h m i o =
     let e = among-one k key.Chains a in
     rw e (chains-step r c d v (within-yes 1 64 v (not-false (within 1 64 v) (rw e at o)) .0))
 after-steps key.Chains k r c d v a h m i o = rw (among-one k key.Chain a) (chain-first r c d v (i .some refl))
-after-steps key.Chain k r c d v a h m i o = rw (behind-chains k a h) (window-step r c d v (all-chains r c d m i))
-after-steps key.Window k r c d v a h m i o = absurd (clash (head k) h (rw (among-one k key.Depth a) refl))
+after-steps key.Chain k r c d v a h m i o = optional-step r c d v key.Chain k (optional-next key.Chain k refl a h) (all-chains r c d m i)
+after-steps key.Invert k r c d v a h m i o = optional-step r c d v key.Invert k (optional-next key.Invert k refl a h) refl
+after-steps key.Window k r c d v a h m i o = optional-step r c d v key.Window k (optional-next key.Window k refl a h) refl
 after-steps key.Depth k r c d v a h m i o = absurd (clash false (i .heads) refl)
 after-steps key.Slice k r c d v a h m i o = absurd (clash false (i .heads) refl)
 after-steps key.Stop k r c d v a h m i o = absurd (clash false (i .heads) refl)
@@ -143,6 +140,7 @@ depth-after key.Cells r c d a m i = absurd (clash false a refl)
 depth-after key.Taps r c d a m i = absurd (clash false a refl)
 depth-after key.Chains r c d a m i = absurd (clash false a refl)
 depth-after key.Chain r c d a m i = sym (all-chains r c d m i)
+depth-after key.Invert r c d a m i = refl
 depth-after key.Window r c d a m i = refl
 depth-after key.Depth r c d a m i = refl
 depth-after key.Slice r c d a m i = refl

@@ -5,6 +5,8 @@
 --     said-alike            a line before depth says the same in both kinds of text
 --     line-alike            so it reads in front of a text that is read through
 --     apart, picked-other, masks-more     what is picked of an entry in front
+--     lastOf d vs           the last of the numbers vs, or d where there is none
+--     chains-moved          so it is with the chains of a place and the chains lines
 --     stand-next            which keys may stand after a line that is no chain line
 --     picked-slices         after depth there are slice lines only
 --     Heading p t es        the entries es of the text t from the place p on, cut at depth: those before it, those behind it, the place where it stands, and the lines before it read in front of whatever a seed list goes on with there
@@ -30,14 +32,15 @@ use Rattle.text_key_of.specs.Begins.{starts}
 use Rattle.text_lines.specs.declared.Entry.{Entry}
 use Rattle.text_lines.specs.declared.Line.{Line}
 use Rattle.text_lines.specs.declared.Line.the-variants as lines
-use Rattle.text_entries.specs.Said.{picked, masksOf}
+use Rattle.text_entries.specs.Said.{picked, numbersFor, masksOf}
 use Rattle.text_entries.specs.declared.Part.{Part}
 use Rattle.text_split.specs.Text.{Text, line, rest, joined, split}
 use Rattle.text_order.specs.Order.{after, mayStand, among, inOrder}
+use Rattle.text_order.specs.declared.Kind.{Kind}
 use Rattle.text_order.specs.declared.Kind.the-variants.{Sheet, SeedList}
 use Rattle.text_order.proofs.Standing.{missing-none, stand-after, among-one}
 use Rattle.text_order.proofs.Heads.{head, head-next, stop-next, head-ends}
-use Rattle.text_place.specs.Places.{runOf, moved}
+use Rattle.text_place.specs.Places.{runOf, numberIf, moved}
 use Rattle.text_place.specs.declared.Place.{Place}
 use Rattle.text_ranges.specs.Ranges.{saying}
 use Rattle.text_ranges.proofs.Ranging.{saying-said, tested-right}
@@ -106,7 +109,7 @@ apart j k b h g = go (same j k) refl
     go true s = absurd (unlike b h (ap head (same-is j k s) ∙ g))
     go false s = s
 
-picked-other : (k : Key) (q : Part) (e : Entry) (es : List Entry) → same (e .key) k ≡ false → picked k q (e ∷ es) ≡ picked k q es
+pub picked-other : (k : Key) (q : Part) (e : Entry) (es : List Entry) → same (e .key) k ≡ false → picked k q (e ∷ es) ≡ picked k q es
 unfolding picked
 picked-other k q e es h = rw (h, picked)
 
@@ -118,11 +121,23 @@ masks-more e es = go (same (e .key) key.Chain)
     go true = omega arith
     go false = omega arith
 
+unfoldable pub lastOf : ℕ → List ℕ → ℕ
+lastOf d [] = d
+lastOf d (v ∷ vs) = lastOf v vs
+
+chains-moved : (p : Place) (e : Entry) (es : List Entry) → lastOf (moved p (e .key) (e .first) .chains) (numbersFor key.Chains es) ≡ lastOf (p .chains) (numbersFor key.Chains (e ∷ es))
+unfolding moved picked lastOf
+chains-moved p e es = go (same (e .key) key.Chains)
+  where
+    go : (b : Bool) → lastOf (numberIf b (e .first) (p .chains)) (numbersFor key.Chains es) ≡ lastOf (p .chains) (elim b [ true ↦ e .first ∷ numbersFor key.Chains es | false ↦ numbersFor key.Chains es ])
+    go true = refl
+    go false = refl
+
 -- ---- after depth
 
-stand-next : (p : Place) (k : Key) (v : ℕ) → same k key.Chain ≡ false → mayStand Sheet (moved p k v) ≡ after Sheet k
+pub stand-next : (kind : Kind) (p : Place) (k : Key) (v : ℕ) → same k key.Chain ≡ false → mayStand kind (moved p k v) ≡ after kind k
 unfolding moved
-stand-next p k v n = let q = moved p k v in stand-after q Sheet (ne-eqb (runOf p k + 1) 0 (λ e. omega arith)) (missing-none q n)
+stand-next kind p k v n = let q = moved p k v in stand-after q kind (ne-eqb (runOf p k + 1) 0 (λ e. omega arith)) (missing-none q n)
 
 module _ (k : Key) (q : Part) (h : head k ≡ true) where
   picked-slices : (t : Text) (p : Place) (n : ℕ) → mayStand Sheet p ≡ key.Slice ∷ [] → picked k q (reading Sheet p n t .entries) ≡ []
@@ -138,7 +153,7 @@ module _ (k : Key) (q : Part) (h : head k ≡ true) where
           let j = among-one (f .key) key.Slice (rw s at (line-accepted Sheet p f l e .order)) in
           picked-other k q f (reading Sheet (moved p (f .key) (f .first)) (n + 1) t .entries) (ap (λ i. same i k) j ∙ apart key.Slice k false refl h)
           ∙ ap (λ i. picked k q (reading Sheet (moved p i (f .first)) (n + 1) t .entries)) j
-          ∙ ih (f .first) (stand-next p key.Slice (f .first) refl)
+          ∙ ih (f .first) (stand-next Sheet p key.Slice (f .first) refl)
 
 pub record Heading (p : Place) (t : Text) (es : List Entry) : Type 0 where
   pub above : List Entry
@@ -148,6 +163,7 @@ pub record Heading (p : Place) (t : Text) (es : List Entry) : Type 0 where
   pub next : inOrder SeedList place key.Stop ≡ true
   pub fresh : same (place .last) key.Stop ≡ false
   pub counted : place .chains ≡ had p + length (masksOf above)
+  pub said : place .chains ≡ lastOf (p .chains) (numbersFor key.Chains above)
   pub reads : (x : List ℕ) (fs : List Entry) → Reads SeedList place x fs → Reads SeedList p (linesBefore key.Depth t ++ x) (above ++ fs)
   pub heads : (k : Key) (q : Part) → head k ≡ false → picked k q above ≡ []
   pub tails : (k : Key) (q : Part) → head k ≡ true → picked k q below ≡ []
@@ -162,7 +178,7 @@ module _ (p : Place) (i : Held p) (l : List ℕ) (t : Text) (f : Entry) (s : say
   begins = said-starts Sheet p l f s key.Depth
 
   at-depth : same (f .key) key.Depth ≡ true → Heading p (line l t) (f ∷ others)
-  unfolding picked head among same after
+  unfolding picked head among same after lastOf
   at-depth d =
       let j = same-is (f .key) key.Depth d in
       let o : inOrder Sheet p key.Depth ≡ true = rw j at (line-accepted Sheet p f l s .order) in
@@ -174,9 +190,10 @@ module _ (p : Place) (i : Held p) (l : List ℕ) (t : Text) (f : Entry) (s : say
         next = stop-next p (i .heads) o;
         fresh = apart (p .last) key.Stop true (i .heads) refl;
         counted = omega (arith, depth-counted p i o);
+        said = refl;
         reads = λ x fs r. subst (λ (b : List ℕ). Reads SeedList p (b ++ x) fs) (sym (before-key key.Depth l t (begins ∙ d))) r;
         heads = λ k q h. refl;
-        tails = λ k q h. picked-other k q f others (ap (λ m. same m k) j ∙ apart key.Depth k false refl h) ∙ ap (λ m. picked k q (reading Sheet (moved p m (f .first)) (n + 1) t .entries)) j ∙ picked-slices k q h t (moved p key.Depth (f .first)) (n + 1) (stand-next p key.Depth (f .first) refl);
+        tails = λ k q h. picked-other k q f others (ap (λ m. same m k) j ∙ apart key.Depth k false refl h) ∙ ap (λ m. picked k q (reading Sheet (moved p m (f .first)) (n + 1) t .entries)) j ∙ picked-slices k q h t (moved p key.Depth (f .first)) (n + 1) (stand-next Sheet p key.Depth (f .first) refl);
       }
 
   above-depth : same (f .key) key.Depth ≡ false → any isFeed l ≡ false → (Held (moved p (f .key) (f .first)) → Heading (moved p (f .key) (f .first)) t others) → Heading p (line l t) (f ∷ others)
@@ -193,6 +210,7 @@ module _ (p : Place) (i : Held p) (l : List ℕ) (t : Text) (f : Entry) (s : say
         next = r .next;
         fresh = r .fresh;
         counted = omega (arith, r .counted, w .more, masks-more f (r .above));
+        said = r .said ∙ chains-moved p f (r .above);
         reads = λ x fs h. subst (λ (b : List ℕ). Reads SeedList p b (f ∷ (r .above ++ fs))) (sym (ap (λ (b : List ℕ). b ++ x) (before-line key.Depth l t (begins ∙ d)) ∙ append-assoc l (feed ∷ linesBefore key.Depth t) x)) (line-alike p l f s (g .1) u (linesBefore key.Depth t ++ x) (r .above ++ fs) (r .reads x fs h));
         heads = λ k q h. picked-other k q f (r .above) (apart (f .key) k true (g .0) h) ∙ r .heads k q h;
         tails = r .tails;

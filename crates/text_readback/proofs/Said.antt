@@ -4,10 +4,9 @@
 -- Assumes nothing.
 use mathlib.Core.Bool.{true, false}
 use mathlib.Core.Path.{_≡_, refl, sym, ap, ap₂, _∙_}
-use mathlib.Core.List.{List, [], _++_}
+use mathlib.Core.List.{List, [], _++_, append-nil}
 use Prim.Native.Nat.{ℕ}
 use lib.ListN.{getD}
-use Rattle.machine_settings.specs.Machine.{defaultLimit}
 use Rattle.machine_slices.specs.declared.TestSlice.{TestSlice}
 use Rattle.text_keys.specs.Keys.{same}
 use Rattle.text_keys.specs.declared.Key.{Key}
@@ -26,7 +25,7 @@ use Rattle.text_reading.specs.Reading.{readingOf}
 use Rattle.text_readback.specs.Written.{ownEntries}
 use Rattle.text_readback.proofs.Picked.{picked-append, picked-none, picked-all}
 use Rattle.text_readback.proofs.Heads.{Heading}
-use Rattle.text_readback.proofs.Whole.{cut}
+use Rattle.text_readback.proofs.Whole.{cut, head-picked}
 
 module _ (s : List ℕ) (read : readingOf Sheet s .end ≡ Whole) (stop : TestSlice) (slices : ℕ) (seeds : List ℕ) where
   abbrev sheet : List Entry
@@ -45,9 +44,9 @@ module _ (s : List ℕ) (read : readingOf Sheet s .end ≡ Whole) (stop : TestSl
   head-back : (k : Key) → head k ≡ true → numbersFor k own ≡ [] → numbersFor k listed ≡ numbersFor k sheet
   head-back k e o =
       picked-append k First (above .above) own
-      ∙ ap (λ (l : List ℕ). numbersFor k (above .above) ++ l) (o ∙ sym (above .tails k First e))
-      ∙ sym (picked-append k First (above .above) (above .below))
-      ∙ ap (picked k First) (sym (above .parts))
+      ∙ ap (λ (l : List ℕ). numbersFor k (above .above) ++ l) o
+      ∙ append-nil (numbersFor k (above .above))
+      ∙ sym (head-picked s read k e)
 
   -- A key of the list's own lines.
   own-back : (k : Key) (p : Part) → head k ≡ false → picked k p listed ≡ picked k p own
@@ -60,9 +59,12 @@ module _ (s : List ℕ) (read : readingOf Sheet s .end ≡ Whole) (stop : TestSl
   pub settings-back : settingsOf listed ≡ settingsOf sheet
   unfolding head among same ownEntries picked
   settings-back =
-      ap (λ (l : List ℕ). record { cells = getD l 0 0; taps = numberFor key.Taps listed; limit = getD (numbersFor key.Window listed) 0 defaultLimit }) (head-back key.Cells refl (picked-none key.Cells First key.Seed refl seeds))
-      ∙ ap (λ (l : List ℕ). record { cells = numberFor key.Cells sheet; taps = getD l 0 0; limit = getD (numbersFor key.Window listed) 0 defaultLimit }) (head-back key.Taps refl (picked-none key.Taps First key.Seed refl seeds))
-      ∙ ap (λ (l : List ℕ). record { cells = numberFor key.Cells sheet; taps = numberFor key.Taps sheet; limit = getD l 0 defaultLimit }) (head-back key.Window refl (picked-none key.Window First key.Seed refl seeds))
+      rw (
+        head-back key.Cells refl (picked-none key.Cells First key.Seed refl seeds),
+        head-back key.Taps refl (picked-none key.Taps First key.Seed refl seeds),
+        head-back key.Window refl (picked-none key.Window First key.Seed refl seeds),
+        head-back key.Invert refl (picked-none key.Invert First key.Seed refl seeds),
+      )
 
   pub seeds-back : numbersFor key.Seed listed ≡ seeds
   unfolding head among same ownEntries picked

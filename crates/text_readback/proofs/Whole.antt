@@ -2,11 +2,14 @@
 --     stop-some       what the checks say of the stop slice
 --     own-reads       the list's own lines are read through, wherever a stop line may stand
 --     Back s stop slices seeds     what the list says: the sheet's entries before depth, and its own
+--     head-picked     what the sheet says for a key of the lines before depth stands there
+--     chains-said     there are as many masks as the place behind the head has chains
+--     chains-counted      and as the chains line says
 --     read-back       the reading of the whole list
 -- Assumes nothing.
 use mathlib.Core.Bool.{true, false}
 use mathlib.Core.Path.{_≡_, refl, sym, ap, subst, _∙_}
-use mathlib.Core.List.{List, _++_, append-nil}
+use mathlib.Core.List.{List, [], _∷_, _++_, append-nil}
 use Prim.Native.Nat.{ℕ, _+_}
 use native.Mathlib.Omega.{arith}
 use borrow.Author.Tests.{ne-eqb}
@@ -19,10 +22,11 @@ use Rattle.machine_slices.proofs.Formed.{stop-slice}
 use Rattle.refusal_lengths.specs.Lengths.{badSet}
 use Rattle.refusal_lengths.proofs.Lengths.{set-within}
 use Rattle.text_keys.specs.Keys.{rows, rowAt, name, notation, same, most, range}
+use Rattle.text_keys.specs.declared.Key.{Key}
 use Rattle.text_keys.specs.declared.Key.the-variants as key
 use Rattle.text_lines.specs.Form.{entry}
 use Rattle.text_lines.specs.declared.Entry.{Entry}
-use Rattle.text_entries.specs.Said.{masksOf}
+use Rattle.text_entries.specs.Said.{numbersFor, masksOf}
 use Rattle.text_entries.specs.declared.Part.the-variants.{First}
 use Rattle.text_split.specs.Text.{split}
 use Rattle.text_order.specs.Order.{after, missing, mayStand, among, inOrder, mayEnd}
@@ -44,7 +48,7 @@ use Rattle.text_readback.proofs.Lines.{Reads, line-reads}
 use Rattle.text_readback.proofs.Runs.{placeAt, accepted-at, seeds-read}
 use Rattle.text_readback.proofs.Picked.{picked-append}
 use Rattle.text_readback.proofs.Chains.{had, hadOf, held-start}
-use Rattle.text_readback.proofs.Heads.{split-plain, Heading, heading}
+use Rattle.text_readback.proofs.Heads.{lastOf, split-plain, Heading, heading}
 
 stop-some : (chains : ℕ) (stop : TestSlice) → badStop chains stop ≡ false → eqb (stop .specified) 0 ≡ false
 unfolding badStop
@@ -79,11 +83,16 @@ module _ (s : List ℕ) (read : readingOf Sheet s .end ≡ Whole) where
   unfolding readingOf
   cut = heading (split s) start 1 (split-plain s) held-start read
 
+  pub head-picked : (k : Key) → head k ≡ true → numbersFor k sheet ≡ numbersFor k (cut .above)
+  head-picked k h = ap (numbersFor k) (cut .parts) ∙ picked-append k First (cut .above) (cut .below) ∙ ap (λ (l : List ℕ). numbersFor k (cut .above) ++ l) (cut .tails k First h) ∙ append-nil (numbersFor k (cut .above))
+
   pub chains-said : cut .place .chains ≡ length (masksOf sheet)
   unfolding had hadOf head among same
-  chains-said =
-      let m : masksOf sheet ≡ masksOf (cut .above) = ap masksOf (cut .parts) ∙ picked-append key.Chain First (cut .above) (cut .below) ∙ ap (λ (l : List ℕ). masksOf (cut .above) ++ l) (cut .tails key.Chain First refl) ∙ append-nil (masksOf (cut .above)) in
-      omega (arith, cut .counted, ap length m)
+  chains-said = omega (arith, cut .counted, ap length (head-picked key.Chain refl))
+
+  pub chains-counted : (n : ℕ) → numbersFor key.Chains sheet ≡ n ∷ [] → length (masksOf sheet) ≡ n
+  unfolding head among same lastOf
+  chains-counted n e = sym chains-said ∙ cut .said ∙ ap (lastOf 0) (sym (head-picked key.Chains refl) ∙ e)
 
   pub read-back : (stop : TestSlice) (slices : ℕ) (seeds : List ℕ) → Printable (length (masksOf sheet)) stop slices seeds
       → readingOf SeedList (listText (linesBefore key.Depth (split s)) (length (masksOf sheet)) stop slices seeds) ≡ record { entries = cut .above ++ ownEntries stop slices seeds; end = Whole }

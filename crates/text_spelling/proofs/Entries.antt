@@ -53,7 +53,7 @@ module _ (k : Key) where
     unfolding writtenBefore
     written-key s = rw (s, writtenBefore)
 
-    written-line : same (e .key) k ≡ false → writtenBefore k p (e ∷ es) ≡ written (p .chains) e ++ writtenBefore k (moved p (e .key) (e .first)) es
+    pub written-line : same (e .key) k ≡ false → writtenBefore k p (e ∷ es) ≡ written (p .chains) e ++ writtenBefore k (moved p (e .key) (e .first)) es
     unfolding writtenBefore
     written-line s = rw (s, writtenBefore)
 

@@ -1,6 +1,5 @@
 -- Entries in order (`Ordered`), line by line.
 --     only-key            the key of a line where only one may stand
---     stand-next          which keys may stand after a line that is no chain line
 --     Next kind p j es    the entries es, in order from the place p on, begin with one of the key j
 --     next-some           where a text may not end they begin with one whose key may stand there
 --     next-line           which is j where only j may stand
@@ -9,9 +8,7 @@
 use mathlib.Core.Bool.{true, false}
 use mathlib.Core.Path.{_≡_, refl}
 use mathlib.Core.List.{List, [], _∷_}
-use Prim.Native.Nat.{ℕ, _+_}
-use native.Mathlib.Omega.{arith}
-use borrow.Author.Tests.{ne-eqb}
+use Prim.Native.Nat.{ℕ}
 use Rattle.words_bounded.proofs.Tests.{clash}
 use Rattle.text_keys.specs.Keys.{same}
 use Rattle.text_keys.specs.declared.Key.{Key}
@@ -22,17 +19,14 @@ use Rattle.text_entries.specs.Said.{picked, numbersFor}
 use Rattle.text_order.specs.Order.{after, mayStand, inOrder, mayEnd}
 use Rattle.text_order.specs.declared.Kind.{Kind}
 use Rattle.text_order.specs.declared.Kind.the-variants.{Sheet}
-use Rattle.text_order.proofs.Standing.{missing-none, stand-after, among-one}
-use Rattle.text_place.specs.Places.{runOf, moved}
+use Rattle.text_order.proofs.Standing.{among-one}
+use Rattle.text_place.specs.Places.{moved}
 use Rattle.text_place.specs.declared.Place.{Place}
 use Rattle.text_ranges.specs.Ranges.{outOfRange}
+use Rattle.text_readback.proofs.Heads.{stand-next}
 use Rattle.text_spelling.proofs.Entries.{Ordered}
 
 module _ (kind : Kind) (p : Place) where
-  pub stand-next : (k : Key) (v : ℕ) → same k key.Chain ≡ false → mayStand kind (moved p k v) ≡ after kind k
-  unfolding moved
-  stand-next k v n = let q = moved p k v in stand-after q kind (ne-eqb (runOf p k + 1) 0 (λ e. omega arith)) (missing-none q n)
-
   only-key : (k j : Key) → mayStand kind p ≡ j ∷ [] → inOrder kind p k ≡ true → k ≡ j
   unfolding inOrder
   only-key k j s o = among-one k j (rw s at o)
@@ -45,7 +39,7 @@ pub record Next (kind : Kind) (p : Place) (j : Key) (es : List Entry) : Type 0 w
   pub ranges : outOfRange p j first ≡ false
   pub order : Ordered kind (moved p j first) others
 
-pub next-some : (kind : Kind) (p : Place) (es : List Entry) → mayEnd kind p ≡ false → Ordered kind p es → (j : Key) × (inOrder kind p j ≡ true) × Next kind p j es
+next-some : (kind : Kind) (p : Place) (es : List Entry) → mayEnd kind p ≡ false → Ordered kind p es → (j : Key) × (inOrder kind p j ≡ true) × Next kind p j es
 next-some kind p [] m o = absurd (clash (mayEnd kind p) o m)
 next-some kind p (e ∷ es) m o = (e .key, o .0 .order, record { first = e .first; second = e .second; others = es; whole = refl; ranges = o .0 .ranges; order = o .1 })
 

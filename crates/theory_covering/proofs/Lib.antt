@@ -4,5 +4,7 @@ pub mod Places
 pub mod Segments
 pub mod Windows
 pub mod Limits
+pub mod Inversion
+pub mod Upright
 pub mod Zero
 pub mod Single

@@ -2,4 +2,5 @@
 pub mod Covering
 pub mod Rules
 pub mod Windows
+pub mod Inversion
 pub mod Single

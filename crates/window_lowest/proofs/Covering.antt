@@ -13,7 +13,7 @@ use mathlib.Core.List.{List, [], _∷_, map}
 use Prim.Native.Nat.{ℕ, zero, suc, _+_, _*_, _/_, _%_, _^_, _≤_, _<_, min}
 use native.Mathlib.Nat.{zero-lt-suc}
 use native.Mathlib.Omega.{arith}
-use lib.Bits.{bitAnd, and-step, and-zero-r, xor-zero-r}
+use lib.Bits.{bitAnd, bitXor, and-step, and-zero-r, xor-zero-r}
 use lib.Dec.{eqb}
 use lib.ListN.{length, length-map}
 use borrow.Author.Tests.{eqb-true, eq-eqb, not-true}
@@ -128,7 +128,7 @@ module _ (g : Settings) (masks : List ℕ) (stop : TestSlice) (p : Pattern) (tab
   agrees-row : (x : TestSlice) (t s : ℕ) → t < n → Formed c x → agrees x (M .slice (run t s)) ≡ meets (row c table t) (x .specified) (x .bits) s
   unfolding agrees
   agrees-row x t s h f =
-      ap (λ (v : ℕ). eqb (bitAnd v (x .specified)) (x .bits)) (xor-zero-r (slice masks (run t s)))
+      ap (λ (v : ℕ). eqb (bitAnd v (x .specified)) (x .bits)) (ap (bitXor (slice masks (run t s))) (r .upright) ∙ xor-zero-r (slice masks (run t s)))
       ∙ agrees-meets masks (x .specified) (x .bits) (run t s) (f .among) (f .inside)
       ∙ sym (meets-pulled (g .cells) (g .taps) (cells-within (g .cells) (g .taps) (r .register) .0) (taps-below (g .cells) (g .taps) (r .register)) masks (x .specified) (x .bits) t s (chains-masked (g .cells) masks (r .chains)))
       ∙ sym (ap (λ (l : List ℕ). meets l (x .specified) (x .bits) s) (r .table .rows t h))

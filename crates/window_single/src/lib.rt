@@ -1,4 +1,5 @@
 // The seed of a single window: the lowest state that covers it, or a refusal.
+use machine_register::Register;
 use machine_settings::Settings;
 use machine_slices::TestSlice;
 use refusal_causes::Cause;
@@ -11,7 +12,7 @@ ghost use mathlib.Core.Bool.{true};
 ghost use mathlib.Core.Option.{Option};
 ghost use mathlib.Core.Path.{_≡_};
 ghost use Prim.Native.Nat.{ℕ};
-ghost use Rattle.machine_settings.specs.Machine.{machine};
+ghost use Rattle.machine_settings.specs.Machine.{noneInverted, machine};
 ghost use Rattle.machine_slices.specs.Slices.{paired};
 ghost use Rattle.refusal_order.specs.Order.{judged};
 ghost use Rattle.refusal_checks.specs.Calls.{windowFaults};
@@ -30,15 +31,15 @@ fn answer(found: Found) -> Seed
     }
 }
 
-// The seed of a well-formed window.
-fn seed_of(
+// The seed of a well-formed window, where no chain is inverted.
+fn seed_upright(
     settings: Settings,
     masks: &[u64],
     stop: TestSlice,
     specified: &[u64],
     bits: &[u64],
 ) -> Seed
-    requires { ⌜ judged (windowFaults settings (now masks) stop (now specified) (now bits)) ≡ verdict.WellFormed ⌝ }
+    requires { ⌜ (judged (windowFaults settings (now masks) stop (now specified) (now bits)) ≡ verdict.WellFormed) × (settings .invert ≡ noneInverted) ⌝ }
     ensures { λ r. ⌜ r ≡ lowestOr7 (seedOf (machine settings (now (masks .entry))) stop true (paired (now (specified .entry)) (now (bits .entry)))) ⌝ }
 {
     let mut table = [0u64; MOST_ENTRIES];
@@ -55,6 +56,25 @@ fn seed_of(
     };
     let found = window_lowest::found_anew(sought, masks, &table, &stops, specified, bits);
     answer(found)
+}
+
+// The seed of a well-formed window: what it asks for is flipped at the inverted chains, once.
+fn seed_of(
+    settings: Settings,
+    masks: &[u64],
+    stop: TestSlice,
+    specified: &[u64],
+    bits: &[u64],
+) -> Seed
+    requires { ⌜ judged (windowFaults settings (now masks) stop (now specified) (now bits)) ≡ verdict.WellFormed ⌝ }
+    ensures { λ r. ⌜ r ≡ lowestOr7 (seedOf (machine settings (now (masks .entry))) stop true (paired (now (specified .entry)) (now (bits .entry)))) ⌝ }
+{
+    let mut flipped = [0u64; Register::LONGEST_WINDOW];
+    let invert = settings.invert;
+    machine_inversion::flip_bits(invert, specified, bits, &mut flipped);
+    let upright = machine_inversion::upright(settings);
+    let shown = machine_inversion::flip(invert, stop);
+    seed_upright(upright, masks, shown, specified, &flipped[..bits.len()])
 }
 
 // The seed of a window: the lowest state that covers it, or the first of causes 1 to 5 that holds, then 7.

@@ -12,6 +12,7 @@ use native.Mathlib.Nat.{suc-mul, mul-le-mul-left, mul-le-mul-right, lt-of-lt-of-
 use native.Mathlib.Omega.{arith}
 use lib.ListN.{length, length-append}
 use Rattle.machine_settings.specs.declared.Settings.{Settings}
+use Rattle.machine_settings.specs.Machine.{noneInverted}
 use Rattle.machine_register.specs.Register.{badRegister}
 use Rattle.machine_chains.specs.Chains.{badChains}
 use Rattle.machine_slices.specs.declared.TestSlice.{TestSlice}
@@ -32,12 +33,13 @@ tabled-rows taps n masks rest table e = record {
 }
 
 pub tables-filled : (g : Settings) (masks : List ℕ) (stop : TestSlice) (p : Pattern) (table stops rest more : List ℕ) (n : ℕ)
-    → badRegister (g .cells) (g .taps) ≡ false → badChains (g .cells) masks ≡ false → badStop (length masks) stop ≡ false
+    → badRegister (g .cells) (g .taps) ≡ false → badChains (g .cells) masks ≡ false → g .invert ≡ noneInverted → badStop (length masks) stop ≡ false
     → p ≡ patternOf stop masks → table ≡ rowsOf (g .taps) n masks ++ rest → stops ≡ rowsOf (g .taps) n (chosen (stop .specified) masks) ++ more
     → Tables g masks stop p table stops n
-tables-filled g masks stop p table stops rest more n register chains formed pattern t c = record {
+tables-filled g masks stop p table stops rest more n register chains upright formed pattern t c = record {
   register = register;
   chains = chains;
+  upright = upright;
   stop = formed;
   pattern = pattern;
   table = tabled-rows (g .taps) n masks rest table t;
@@ -55,6 +57,7 @@ pub tables-fewer : (g : Settings) (masks : List ℕ) (stop : TestSlice) (p : Pat
 tables-fewer g masks stop p table stops m n h r = record {
   register = r .register;
   chains = r .chains;
+  upright = r .upright;
   stop = r .stop;
   pattern = r .pattern;
   table = tabled-fewer (g .taps) m n masks table h (r .table);

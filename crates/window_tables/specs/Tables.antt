@@ -1,7 +1,7 @@
 -- The tables of a call: what the search for a seed relies on besides the register, the chains and the stop slice.
 --     patternOf stop masks     the stop slice without its unspecified positions
 --     Tabled taps n masks table     the table's first n rows are the masks pulled back, row t through t steps
---     Tables g masks st p all few n     register, chains and the stop slice st are well-formed; p is its pattern; the table of all chains and that of the stop's chains have n rows
+--     Tables g masks st p all few n     register, chains and the stop slice st are well-formed, and no chain is inverted; p is its pattern; the table of all chains and that of the stop's chains have n rows
 --     TablesFor q masks all few n     the same of what is asked of a seed
 use mathlib.Core.Path.{_≡_}
 use mathlib.Core.Bool.{false}
@@ -9,6 +9,7 @@ use mathlib.Core.List.{List, map}
 use Prim.Native.Nat.{ℕ, _*_, _≤_, _<_}
 use lib.ListN.{length}
 use Rattle.machine_settings.specs.declared.Settings.{Settings}
+use Rattle.machine_settings.specs.Machine.{noneInverted}
 use Rattle.machine_register.specs.Register.{badRegister, pulls}
 use Rattle.machine_chains.specs.Chains.{badChains}
 use Rattle.machine_slices.specs.declared.TestSlice.{TestSlice}
@@ -31,6 +32,7 @@ pub record Tabled (taps n : ℕ) (masks table : List ℕ) : Type 0 where
 pub record Tables (g : Settings) (masks : List ℕ) (st : TestSlice) (p : Pattern) (all few : List ℕ) (n : ℕ) : Type 0 where
   pub register : badRegister (g .cells) (g .taps) ≡ false
   pub chains : badChains (g .cells) masks ≡ false
+  pub upright : g .invert ≡ noneInverted
   pub stop : badStop (length masks) st ≡ false
   pub pattern : p ≡ patternOf st masks
   pub table : Tabled (g .taps) n masks all

@@ -8,15 +8,17 @@ use second::*;
 pub struct Core {
     pub cells: u64,
     pub taps: u64,
+    /// The inverted chains.
+    pub invert: u64,
     pub masks: Vec<u64>,
     pub stop: (u64, u64),
 }
 
 impl Core {
     pub fn window(&self, limit: u64, spec: &[u64], bits: &[u64]) -> Result<u64, Refused> {
-        let (masks, stop) = (&self.masks, self.stop);
+        let (invert, masks, stop) = (self.invert, &self.masks, self.stop);
         window_seed(
-            self.cells, self.taps, limit, masks, stop.0, stop.1, spec, bits,
+            self.cells, self.taps, limit, invert, masks, stop.0, stop.1, spec, bits,
         )
     }
 
@@ -26,9 +28,9 @@ impl Core {
         spec: &[u64],
         bits: &[u64],
     ) -> Option<Result<u64, Refused>> {
-        let (masks, stop) = (&self.masks, self.stop);
+        let (invert, masks, stop) = (self.invert, &self.masks, self.stop);
         brute_window(
-            self.cells, self.taps, limit, masks, stop.0, stop.1, spec, bits,
+            self.cells, self.taps, limit, invert, masks, stop.0, stop.1, spec, bits,
         )
     }
 
@@ -40,9 +42,9 @@ impl Core {
         bits: &[u64],
         out: &mut [u64],
     ) -> Result<usize, Refused> {
-        let (masks, stop) = (&self.masks, self.stop);
+        let (invert, masks, stop) = (self.invert, &self.masks, self.stop);
         encode_set(
-            self.cells, self.taps, limit, masks, stop.0, stop.1, spec, bits, out,
+            self.cells, self.taps, limit, invert, masks, stop.0, stop.1, spec, bits, out,
         )
     }
 
@@ -57,19 +59,19 @@ impl Core {
     }
 
     pub fn brute_set(&self, limit: u64, spec: &[u64], bits: &[u64]) -> Result<BruteSet, Refused> {
-        let (masks, stop) = (&self.masks, self.stop);
+        let (invert, masks, stop) = (self.invert, &self.masks, self.stop);
         brute_set(
-            self.cells, self.taps, limit, masks, stop.0, stop.1, spec, bits,
+            self.cells, self.taps, limit, invert, masks, stop.0, stop.1, spec, bits,
         )
         .expect("at most 16 cells")
     }
 
     /// The slices of the seeds. The buffer is as in `set`.
     pub fn expand(&self, limit: u64, total: u64, seeds: &[u64]) -> Result<Vec<u64>, Refused> {
-        let (masks, stop) = (&self.masks, self.stop);
+        let (invert, masks, stop) = (self.invert, &self.masks, self.stop);
         let mut out = vec![u64::MAX; 2049];
         let answer = expand(
-            self.cells, self.taps, limit, masks, stop.0, stop.1, total, seeds, &mut out,
+            self.cells, self.taps, limit, invert, masks, stop.0, stop.1, total, seeds, &mut out,
         );
         let rest = out.split_off(answer.unwrap_or(0));
         assert!(rest.iter().all(|&entry| entry == u64::MAX));
@@ -77,9 +79,9 @@ impl Core {
     }
 
     pub fn covers(&self, limit: u64, spec: &[u64], bits: &[u64], state: u64) -> bool {
-        let (masks, stop) = (&self.masks, self.stop);
+        let (invert, masks, stop) = (self.invert, &self.masks, self.stop);
         covers(
-            self.cells, self.taps, limit, masks, stop.0, stop.1, spec, bits, state,
+            self.cells, self.taps, limit, invert, masks, stop.0, stop.1, spec, bits, state,
         )
     }
 
@@ -87,7 +89,11 @@ impl Core {
     pub fn first_stop(&self, state: u64, last: usize) -> Option<usize> {
         let mut now = state;
         for t in 0..=last {
-            if shows(self.stop.0, self.stop.1, slice(&self.masks, now)) {
+            if shows(
+                self.stop.0,
+                self.stop.1,
+                slice(&self.masks, self.invert, now),
+            ) {
                 return Some(t);
             }
             now = step(self.cells, self.taps, now);
@@ -107,6 +113,7 @@ pub fn counter() -> Core {
     Core {
         cells: 9,
         taps: 0x108,
+        invert: 0,
         masks: (0..9).map(|cell| 1 << cell).collect(),
         stop: (0x1ff, 0x1ff),
     }
@@ -142,6 +149,7 @@ pub fn small(random: &mut Random, most_cells: u64, most_slices: u64) -> (Core, V
     let core = Core {
         cells,
         taps: random.taps(cells),
+        invert: 0,
         masks: random.masks(cells, chains),
         stop: random.stop(chains, stop_share),
     };

@@ -3,6 +3,7 @@
 #![allow(dead_code)]
 
 pub mod cores;
+pub mod texts;
 
 use second::{slice_of, Refused};
 

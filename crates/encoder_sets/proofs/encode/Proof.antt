@@ -1,85 +1,79 @@
 -- `encoder_sets::encode` meets its contract. Assumes nothing.
-use mathlib.Core.Path.{_≡_, sym, ap, _∙_}
-use Prim.Native.Nat.{ℕ, suc, _+_, _≤_, min}
+use mathlib.Core.Path.{refl, sym, ap, _∙_}
 use native.Mathlib.Omega.{arith}
-use native.Mathlib.Numerals.{add-one}
-use lib.ListN.{length, replicate, length-replicate}
+use lib.ListN.{length}
+use lib.Seq.{length-take-le}
 use borrow.Author.Needs.{needs}
 use Rattle.refusal_causes.specs.Outcome.{Outcome}
-use Rattle.machine_settings.specs.Machine.{machine}
-use Rattle.machine_slices.specs.Slices.{paired}
-use Rattle.machine_slices.proofs.Formed.{slices-length}
+use Rattle.machine_slices.proofs.Causes.{slices-equal}
+use Rattle.machine_inversion.proofs.Inversion.{flipped-room, flipped-front}
 use Rattle.refusal_lengths.proofs.Lengths.{set-within}
 use Rattle.refusal_checks.proofs.Formed.{set-formed}
-use Rattle.theory_covering.specs.Rules.{rules}
-use Rattle.window_tables.proofs.Tables.{table-room, tables-filled}
-use Rattle.encoder_sets.proofs.Encoding.{settled-encoding, gathered-held}
+use Rattle.theory_covering.proofs.Upright.{set-upright}
+use Rattle.encoder_meaning.proofs.Inversion.{encoding-upright}
 use Rattle.encoder_sets.proofs.encode.Statement.{statement}
 use Rattle.encoder_sets.proofs.encode.Tie as tie
 
-fill-requires : tie.Need-fill-requires
-fill-requires c κs =
-    let s = c .before .before .before .before .before .before in
+flip-bits-requires : tie.Need-flip-bits-requires
+flip-bits-requires c κs =
+    let s = c .before .before .before .before .before in
     let a = s .args in
     let w = set-formed (a .settings) (a .masks .now) (a .stop) (a .specified .now) (a .bits .now) (s .pre) in
-    table-room (c .before .lesser .result + 1) (length (a .masks .now)) (omega (arith, w .most, c .before .lesser .ensures)) (w .few)
+    let e = slices-equal (length (a .masks .now)) (a .specified .now) (a .bits .now) (w .slices) in
+    (e, omega (arith, set-within (length (a .specified .now)) (w .lengths) .1, e))
 
-fill-stops-requires : tie.Need-fill-stops-requires
-fill-stops-requires c κs =
+array-share-prefix-flipped : tie.Need-array-share-prefix-flipped
+array-share-prefix-flipped c =
     let s = c .before .before .before .before .before .before .before .before .before in
     let a = s .args in
     let w = set-formed (a .settings) (a .masks .now) (a .stop) (a .specified .now) (a .bits .now) (s .pre) in
-    let l = c .before .before .before .before .lesser in
-    (w .few, table-room (l .result + 1) (length (a .masks .now)) (omega (arith, w .most, l .ensures)) (w .few))
+    let f = c .before .before .before .flip-bits in
+    flipped-room (a .settings .invert) (a .specified .now) (a .bits .now) _ (f .last .1 .1 .1 .0) (slices-equal (length (a .masks .now)) (a .specified .now) (a .bits .now) (w .slices)) (f .ensures)
 
-gather-requires : tie.Need-gather-requires
-gather-requires c κs =
-    let s = c .before .before .before .before .before .before .before .before .before .before .before .before .before .before in
+slice-aggregate-encode-upright : tie.Need-slice-aggregate-encode-upright
+slice-aggregate-encode-upright c =
+    let s = c .before .before .before .before .before .before .before .before .before .before in
     let a = s .args in
     let w = set-formed (a .settings) (a .masks .now) (a .stop) (a .specified .now) (a .bits .now) (s .pre) in
-    let l = c .before .before .before .before .before .before .before .before .before .lesser in
-    let k = c .before .before .before .before .fill-stops in
-    let f = c .before .before .before .before .before .before .before .fill in
-    let n : l .result + 1 ≡ suc (min (a .settings .limit) (length (a .specified .now))) = add-one (l .result) ∙ ap suc (l .ensures) in (
-      rw (sym n) (tables-filled (a .settings) (a .masks .now) (a .stop) (k .result) (f .last .1 .1 .1 .0) (k .last .1 .1 .1 .1 .0) _ _ (l .result + 1) (w .register) (w .chains) (w .stop) (k .ensures .0) (f .ensures) (k .ensures .1)),
-      (w .slices, ((w .most, set-within (length (a .specified .now)) (w .lengths) .1, set-within (length (a .specified .now)) (w .lengths) .1), (omega arith, omega arith))),
-    )
+    let f = c .before .before .before .before .flip-bits in
+    sym (length-take-le (length (a .bits .now)) (f .last .1 .1 .1 .0) (flipped-room (a .settings .invert) (a .specified .now) (a .bits .now) _ (f .last .1 .1 .1 .0) (slices-equal (length (a .masks .now)) (a .specified .now) (a .bits .now) (w .slices)) (f .ensures)))
 
-settle-requires : tie.Need-settle-requires
-settle-requires c κs =
-    let s = c .before .before .before .before .before .before .before .before .before .before .before .before .before .before .before .before .before .before in
+encode-upright-requires : tie.Need-encode-upright-requires
+encode-upright-requires c κs =
+    let s = c .before .before .before .before .before .before .before .before .before .before .before in
     let a = s .args in
     let w = set-formed (a .settings) (a .masks .now) (a .stop) (a .specified .now) (a .bits .now) (s .pre) in
-    let room : length (paired (a .specified .now) (a .bits .now)) ≤ length {A = ℕ} (replicate 2048 0) = rw (length-replicate {A = ℕ} 2048 0) (omega (arith, set-within (length (a .specified .now)) (w .lengths) .1, slices-length (length (a .masks .now)) (a .specified .now) (a .bits .now) (w .slices))) in
-    let r = c .before .before .before .gather in
-    gathered-held (machine (a .settings) (a .masks .now)) _ (paired (a .specified .now) (a .bits .now)) _ room (r .result) (r .last .1 .1 .1 .1 .1 .1 .1 .0) (r .ensures .0) (r .ensures .1)
+    let f = c .before .before .before .before .before .flip-bits in
+    let u = c .before .before .before .upright in
+    let t = c .before .before .flip in
+    let front = flipped-front (a .settings .invert) (a .specified .now) (a .bits .now) _ (f .last .1 .1 .1 .0) (slices-equal (length (a .masks .now)) (a .specified .now) (a .bits .now) (w .slices)) (f .ensures) in
+    (rw (u .ensures, t .ensures, front) (set-upright (a .settings) (a .masks .now) (a .stop) (a .specified .now) (a .bits .now) (s .pre)), rw (u .ensures) refl)
 
 returns : tie.Need-returns
 returns c =
-    let s = c .before .before .before .before .before .before .before .before .before .before .before .before .before .before .before .before .before .before .before .before .before in
+    let s = c .before .before .before .before .before .before .before .before .before .before .before .before .before .before in
     let a = s .args in
-    let r = c .before .before .before .before .before .before .gather in
-    let t = c .before .before .settle in
     let w = set-formed (a .settings) (a .masks .now) (a .stop) (a .specified .now) (a .bits .now) (s .pre) in
-    let room : length (paired (a .specified .now) (a .bits .now)) ≤ length {A = ℕ} (replicate 2048 0) = rw (length-replicate {A = ℕ} 2048 0) (omega (arith, set-within (length (a .specified .now)) (w .lengths) .1, slices-length (length (a .masks .now)) (a .specified .now) (a .bits .now) (w .slices))) in
-    let e = settled-encoding (machine (a .settings) (a .masks .now)) (rules (a .settings) (a .stop)) (paired (a .specified .now) (a .bits .now)) _ room (r .result) (r .last .1 .1 .1 .1 .1 .1 .1 .0) (r .ensures .0) (r .ensures .1) (length (a .specified .now)) (a .out .now) (slices-length (length (a .masks .now)) (a .specified .now) (a .bits .now) (w .slices)) in
-    (t .ensures .0 ∙ ap (λ (o : Outcome). o .answer) e, t .ensures .1 ∙ ap (λ (o : Outcome). o .buffer) e)
+    let f = c .before .before .before .before .before .before .before .before .flip-bits in
+    let u = c .before .before .before .before .before .before .upright in
+    let t = c .before .before .before .before .before .flip in
+    let front = flipped-front (a .settings .invert) (a .specified .now) (a .bits .now) _ (f .last .1 .1 .1 .0) (slices-equal (length (a .masks .now)) (a .specified .now) (a .bits .now) (w .slices)) (f .ensures) in
+    let e = sym (encoding-upright (a .settings) (a .masks .now) (a .stop) (a .specified .now) (a .bits .now) (a .out .now)) in
+    let r = c .before .before .encode-upright in (
+      r .ensures .0 ∙ rw (u .ensures, t .ensures, front) (ap (λ (o : Outcome). o .answer) e),
+      r .ensures .1 ∙ rw (u .ensures, t .ensures, front) (ap (λ (o : Outcome). o .buffer) e),
+    )
 
 pub encode-spec : {M : Type 1} → statement M
 encode-spec =
     tie.close
     (tie.spec
+    (λ c. search needs)
+    flip-bits-requires
     (λ c κs. search needs)
-    (λ c. search needs)
-    (λ c. search needs)
-    fill-requires
-    (λ c. search needs)
-    fill-stops-requires
-    (λ c. search needs)
-    (λ c. search needs)
-    (λ c. search needs)
-    gather-requires
-    (λ c. search needs)
-    settle-requires
+    (λ c κs. search needs)
+    array-share-prefix-flipped
+    slice-aggregate-encode-upright
+    encode-upright-requires
     (λ c. search needs)
     returns)

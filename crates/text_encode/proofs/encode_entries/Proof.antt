@@ -14,20 +14,20 @@ array-share-prefix-head : tie.Need-array-share-prefix-head
 array-share-prefix-head c =
     let h = c .before in
     let t = h .before .before .before .before in
-    omega (arith, head-long (entriesIn (t .args .entries .now)) (t .pre .0) (t .pre .1) _ _ (h .write-head .ensures), length-take (h .write-head .result) (h .write-head .last .1 .0))
+    omega (arith, head-long (entriesIn (t .args .entries .now)) (t .pre) _ _ (h .write-head .ensures), length-take (h .write-head .result) (h .write-head .last .1 .0))
 
 slice-aggregate-encode-under : tie.Need-slice-aggregate-encode-under
 slice-aggregate-encode-under c =
     let h = c .before .before in
     let t = h .before .before .before .before in
-    head-long (entriesIn (t .args .entries .now)) (t .pre .0) (t .pre .1) _ _ (h .write-head .ensures)
+    head-long (entriesIn (t .args .entries .now)) (t .pre) _ _ (h .write-head .ensures)
 
 encode-under-requires : tie.Need-encode-under-requires
 encode-under-requires c κs =
     let h = c .before .before .before in
     let t = h .before .before .before .before in
     let es = entriesIn (t .args .entries .now) in
-    rw (head-front es (t .pre .0) (t .pre .1) _ _ (h .write-head .ensures)) (omega (arith, head-room es (t .pre .0) (t .pre .1)), t .pre .0, t .pre .2)
+    rw (head-front es (t .pre) _ _ (h .write-head .ensures)) (omega (arith, head-room es (t .pre)), t .pre)
 
 returns : tie.Need-returns
 unfolding sheetReply
@@ -35,7 +35,7 @@ returns c =
     let u = c .before .before in
     let h = u .before .before .before .before in
     let t = h .before .before .before .before in
-    rw (← (head-front (entriesIn (t .args .entries .now)) (t .pre .0) (t .pre .1) _ _ (h .write-head .ensures))) (u .encode-under .ensures)
+    rw (← (head-front (entriesIn (t .args .entries .now)) (t .pre) _ _ (h .write-head .ensures))) (u .encode-under .ensures)
 
 pub encode-entries-spec : {M : Type 1} → statement M
 encode-entries-spec =

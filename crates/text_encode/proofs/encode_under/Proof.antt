@@ -16,13 +16,13 @@ slice-aggregate-encode-said : tie.Need-slice-aggregate-encode-said
 slice-aggregate-encode-said c =
     let m = c .before .before .before .before .before .before .before .before .before .before in
     let t = m .before .before .before .before .before in
-    few-long 64 (masksOf (entriesIn (t .args .entries .now))) (t .pre .1) _ (m .numbers .ensures .0) _ (m .numbers .ensures .1)
+    few-long 64 (masksOf (entriesIn (t .args .entries .now))) (t .pre .1 .masks) _ (m .numbers .ensures .0) _ (m .numbers .ensures .1)
 
 slice-aggregate-encode-said-2 : tie.Need-slice-aggregate-encode-said-2
 slice-aggregate-encode-said-2 c =
     let s = c .before .before .before .before .before .before .before .before in
     let t = s .before .before .before .before .before .before .before .before in
-    few-long 2048 (specifiedOf (entriesIn (t .args .entries .now))) (t .pre .2) _ (s .numbers2 .ensures .0) _ (s .numbers2 .ensures .1)
+    few-long 2048 (specifiedOf (entriesIn (t .args .entries .now))) (t .pre .1 .slices) _ (s .numbers2 .ensures .0) _ (s .numbers2 .ensures .1)
 
 slice-aggregate-encode-said-3 : tie.Need-slice-aggregate-encode-said-3
 slice-aggregate-encode-said-3 c =
@@ -31,13 +31,13 @@ slice-aggregate-encode-said-3 c =
     let t = s .before .before .before .before .before .before .before .before in
     let es = entriesIn (t .args .entries .now) in
     let p = parts-long key.Slice es in
-    few-long 2048 (bitsOf es) (omega (arith, p, t .pre .2)) _ (s .numbers2 .ensures .0 ∙ p) _ (b .numbers3 .ensures .1)
+    few-long 2048 (bitsOf es) (omega (arith, p, t .pre .1 .slices)) _ (s .numbers2 .ensures .0 ∙ p) _ (b .numbers3 .ensures .1)
 
 encode-said-requires : tie.Need-encode-said-requires
 encode-said-requires c κs =
     let m = c .before .before .before .before .before .before .before .before .before .before .before .before .before in
     let t = m .before .before .before .before .before in
-    rw (few-front 64 (masksOf (entriesIn (t .args .entries .now))) (t .pre .1) _ (m .numbers .ensures .0) _ (m .numbers .ensures .1)) (t .pre .0, t .pre .1)
+    rw (few-front 64 (masksOf (entriesIn (t .args .entries .now))) (t .pre .1 .masks) _ (m .numbers .ensures .0) _ (m .numbers .ensures .1)) (t .pre .0, t .pre .1 .masks)
 
 returns : tie.Need-returns
 unfolding replyUnder
@@ -53,9 +53,9 @@ returns c =
     rw (
       ← (g .settings .ensures),
       ← (g .before .number .ensures),
-      ← (few-front 64 (masksOf es) (t .pre .1) _ (m .numbers .ensures .0) _ (m .numbers .ensures .1)),
-      ← (few-front 2048 (specifiedOf es) (t .pre .2) _ (s .numbers2 .ensures .0) _ (s .numbers2 .ensures .1)),
-      ← (few-front 2048 (bitsOf es) (omega (arith, p, t .pre .2)) _ (s .numbers2 .ensures .0 ∙ p) _ (b .numbers3 .ensures .1)),
+      ← (few-front 64 (masksOf es) (t .pre .1 .masks) _ (m .numbers .ensures .0) _ (m .numbers .ensures .1)),
+      ← (few-front 2048 (specifiedOf es) (t .pre .1 .slices) _ (s .numbers2 .ensures .0) _ (s .numbers2 .ensures .1)),
+      ← (few-front 2048 (bitsOf es) (omega (arith, p, t .pre .1 .slices)) _ (s .numbers2 .ensures .0 ∙ p) _ (b .numbers3 .ensures .1)),
     )
     (r .encode-said .ensures)
 

@@ -5,7 +5,7 @@ use Rattle.text_entries.proofs.settings.Tie as tie
 use mathlib.Core.Path.{refl}
 
 returns : tie.Need-returns
-returns c = rw (← (c .before .before .number .ensures), ← (c .before .number2 .ensures), ← (c .number3 .ensures)) refl
+returns c = rw (← (c .before .before .before .number .ensures), ← (c .before .before .number2 .ensures), ← (c .before .number3 .ensures), ← (c .number4 .ensures)) refl
 
 pub settings-spec : {M : Type 1} → statement M
-settings-spec = tie.close (tie.spec (λ c κs. search needs) (λ c κs. search needs) (λ c κs. search needs) returns)
+settings-spec = tie.close (tie.spec (λ c κs. search needs) (λ c κs. search needs) (λ c κs. search needs) (λ c κs. search needs) returns)

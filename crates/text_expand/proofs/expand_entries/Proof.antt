@@ -14,19 +14,19 @@ slice-aggregate-expand-said : tie.Need-slice-aggregate-expand-said
 slice-aggregate-expand-said c =
     let m = c .before .before .before .before .before .before .before .before .before in
     let t = m .before .before .before .before in
-    few-long 64 (masksOf (entriesIn (t .args .entries .now))) (t .pre .0) _ (m .numbers .ensures .0) _ (m .numbers .ensures .1)
+    few-long 64 (masksOf (entriesIn (t .args .entries .now))) (t .pre .masks) _ (m .numbers .ensures .0) _ (m .numbers .ensures .1)
 
 slice-aggregate-expand-said-2 : tie.Need-slice-aggregate-expand-said-2
 slice-aggregate-expand-said-2 c =
     let s = c .before .before .before .before .before .before .before in
     let t = s .before .before .before .before .before .before .before in
-    few-long 2048 (seedsOf (entriesIn (t .args .entries .now))) (t .pre .1) _ (s .numbers2 .ensures .0) _ (s .numbers2 .ensures .1)
+    few-long 2048 (seedsOf (entriesIn (t .args .entries .now))) (t .pre .seeds) _ (s .numbers2 .ensures .0) _ (s .numbers2 .ensures .1)
 
 expand-said-requires : tie.Need-expand-said-requires
 expand-said-requires c κs =
     let m = c .before .before .before .before .before .before .before .before .before .before .before in
     let t = m .before .before .before .before in
-    rw (few-front 64 (masksOf (entriesIn (t .args .entries .now))) (t .pre .0) _ (m .numbers .ensures .0) _ (m .numbers .ensures .1)) (t .pre .0)
+    rw (few-front 64 (masksOf (entriesIn (t .args .entries .now))) (t .pre .masks) _ (m .numbers .ensures .0) _ (m .numbers .ensures .1)) (t .pre .masks)
 
 returns : tie.Need-returns
 unfolding seedListReply
@@ -44,8 +44,8 @@ returns c =
       ← (p .number .ensures),
       ← (n .before .number2 .ensures),
       ← (n .number3 .ensures),
-      ← (few-front 64 (masksOf es) (t .pre .0) _ (m .numbers .ensures .0) _ (m .numbers .ensures .1)),
-      ← (few-front 2048 (seedsOf es) (t .pre .1) _ (s .numbers2 .ensures .0) _ (s .numbers2 .ensures .1)),
+      ← (few-front 64 (masksOf es) (t .pre .masks) _ (m .numbers .ensures .0) _ (m .numbers .ensures .1)),
+      ← (few-front 2048 (seedsOf es) (t .pre .seeds) _ (s .numbers2 .ensures .0) _ (s .numbers2 .ensures .1)),
     )
     (r .expand-said .ensures)
 

@@ -18,11 +18,15 @@ returns-3 c = rw (c .before .enum-told2 .given .1) (c .bad-mask .ensures)
 
 returns-4 : tie.Need-returns-4
 unfolding outside
-returns-4 c = rw (c .enum-told3 .given .1)
+returns-4 c = rw (c .before .enum-told3 .given .1) (c .beyond .ensures)
 
 returns-5 : tie.Need-returns-5
 unfolding outside
 returns-5 c = rw (c .enum-told4 .given .1)
+
+returns-6 : tie.Need-returns-6
+unfolding outside
+returns-6 c = rw (c .enum-told5 .given .1)
 
 pub outside-spec : {M : Type 1} → statement M
 outside-spec =
@@ -35,9 +39,12 @@ outside-spec =
     (λ c. search needs)
     (λ c κs. search needs)
     (λ c. search needs)
+    (λ c κs. search needs)
+    (λ c. search needs)
     (λ c. search needs)
     returns
     returns-2
     returns-3
     returns-4
-    returns-5)
+    returns-5
+    returns-6)

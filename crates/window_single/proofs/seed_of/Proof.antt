@@ -1,55 +1,73 @@
 -- `window_single::seed_of` meets its contract. Assumes nothing.
-use mathlib.Core.Path.{sym}
-use Prim.Native.Nat.{_+_}
+use mathlib.Core.Path.{refl, sym, ap, _∙_}
 use native.Mathlib.Omega.{arith}
-use native.Mathlib.Numerals.{add-one}
 use lib.ListN.{length}
+use lib.Seq.{length-take-le}
 use borrow.Author.Needs.{needs}
+use Rattle.machine_slices.proofs.Causes.{slices-equal}
+use Rattle.machine_inversion.proofs.Inversion.{flipped-room, flipped-front}
 use Rattle.refusal_lengths.proofs.Lengths.{window-within}
 use Rattle.refusal_checks.proofs.Formed.{window-formed}
-use Rattle.window_tables.proofs.Tables.{table-room, tables-filled}
+use Rattle.theory_covering.specs.Single.{lowestOr7}
+use Rattle.theory_covering.proofs.Upright.{window-upright, seed-upright}
 use Rattle.window_single.proofs.seed_of.Statement.{statement}
 use Rattle.window_single.proofs.seed_of.Tie as tie
 
-fill-requires : tie.Need-fill-requires
-fill-requires c κs =
+flip-bits-requires : tie.Need-flip-bits-requires
+flip-bits-requires c κs =
     let s = c .before .before .before .before in
     let a = s .args in
     let w = window-formed (a .settings) (a .masks .now) (a .stop) (a .specified .now) (a .bits .now) (s .pre) in
-    table-room (length (a .specified .now) + 1) (length (a .masks .now)) (omega (arith, window-within (a .settings .limit) (length (a .specified .now)) (w .lengths) .1, w .most)) (w .few)
+    let e = slices-equal (length (a .masks .now)) (a .specified .now) (a .bits .now) (w .slices) in
+    (e, omega (arith, window-within (a .settings .limit) (length (a .specified .now)) (w .lengths) .1, w .most, e))
 
-fill-stops-requires : tie.Need-fill-stops-requires
-fill-stops-requires c κs =
-    let s = c .before .before .before .before .before .before .before in
+array-share-prefix-flipped : tie.Need-array-share-prefix-flipped
+array-share-prefix-flipped c =
+    let s = c .before .before .before .before .before .before .before .before in
     let a = s .args in
     let w = window-formed (a .settings) (a .masks .now) (a .stop) (a .specified .now) (a .bits .now) (s .pre) in
-    (w .few, table-room (length (a .specified .now) + 1) (length (a .masks .now)) (omega (arith, window-within (a .settings .limit) (length (a .specified .now)) (w .lengths) .1, w .most)) (w .few))
+    let f = c .before .before .before .flip-bits in
+    flipped-room (a .settings .invert) (a .specified .now) (a .bits .now) _ (f .last .1 .1 .1 .0) (slices-equal (length (a .masks .now)) (a .specified .now) (a .bits .now) (w .slices)) (f .ensures)
 
-found-anew-requires : tie.Need-found-anew-requires
-found-anew-requires c κs =
-    let s = c .before .before .before .before .before .before .before .before .before .before .before in
+slice-aggregate-seed-upright : tie.Need-slice-aggregate-seed-upright
+slice-aggregate-seed-upright c =
+    let s = c .before .before .before .before .before .before .before .before .before in
     let a = s .args in
     let w = window-formed (a .settings) (a .masks .now) (a .stop) (a .specified .now) (a .bits .now) (s .pre) in
-    let k = c .before .before .before .fill-stops in
-    let f = c .before .before .before .before .before .before .fill in (
-      rw (sym (add-one (length (a .specified .now)))) (tables-filled (a .settings) (a .masks .now) (a .stop) (k .result) (f .last .1 .1 .1 .0) (k .last .1 .1 .1 .1 .0) _ _ (length (a .specified .now) + 1) (w .register) (w .chains) (w .stop) (k .ensures .0) (f .ensures) (k .ensures .1)),
-      w .slices,
-    )
+    let f = c .before .before .before .before .flip-bits in
+    sym (length-take-le (length (a .bits .now)) (f .last .1 .1 .1 .0) (flipped-room (a .settings .invert) (a .specified .now) (a .bits .now) _ (f .last .1 .1 .1 .0) (slices-equal (length (a .masks .now)) (a .specified .now) (a .bits .now) (w .slices)) (f .ensures)))
+
+seed-upright-requires : tie.Need-seed-upright-requires
+seed-upright-requires c κs =
+    let s = c .before .before .before .before .before .before .before .before .before in
+    let a = s .args in
+    let w = window-formed (a .settings) (a .masks .now) (a .stop) (a .specified .now) (a .bits .now) (s .pre) in
+    let f = c .before .before .before .before .flip-bits in
+    let u = c .before .before .upright in
+    let t = c .before .flip in
+    let front = flipped-front (a .settings .invert) (a .specified .now) (a .bits .now) _ (f .last .1 .1 .1 .0) (slices-equal (length (a .masks .now)) (a .specified .now) (a .bits .now) (w .slices)) (f .ensures) in
+    (rw (u .ensures, t .ensures, front) (window-upright (a .settings) (a .masks .now) (a .stop) (a .specified .now) (a .bits .now) (s .pre)), rw (u .ensures) refl)
 
 returns : tie.Need-returns
-returns c = c .answer .ensures _ (c .before .found-anew .ensures)
+returns c =
+    let s = c .before .before .before .before .before .before .before .before .before .before in
+    let a = s .args in
+    let w = window-formed (a .settings) (a .masks .now) (a .stop) (a .specified .now) (a .bits .now) (s .pre) in
+    let f = c .before .before .before .before .before .flip-bits in
+    let u = c .before .before .before .upright in
+    let t = c .before .before .flip in
+    let front = flipped-front (a .settings .invert) (a .specified .now) (a .bits .now) _ (f .last .1 .1 .1 .0) (slices-equal (length (a .masks .now)) (a .specified .now) (a .bits .now) (w .slices)) (f .ensures) in
+    c .seed-upright .ensures ∙ rw (u .ensures, t .ensures, front) (ap lowestOr7 (sym (seed-upright (a .settings) (a .masks .now) (a .stop) (a .specified .now) (a .bits .now))))
 
 pub seed-of-spec : {M : Type 1} → statement M
 seed-of-spec =
     tie.close
     (tie.spec
     (λ c. search needs)
-    (λ c. search needs)
-    fill-requires
-    (λ c. search needs)
-    fill-stops-requires
-    (λ c. search needs)
-    (λ c. search needs)
-    found-anew-requires
+    flip-bits-requires
     (λ c κs. search needs)
+    (λ c κs. search needs)
+    array-share-prefix-flipped
+    slice-aggregate-seed-upright
+    seed-upright-requires
     returns)

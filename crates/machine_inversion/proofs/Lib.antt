@@ -1,0 +1,3 @@
+-- The laws of inverted chains.
+pub mod Flipping
+pub mod Inversion

@@ -1,0 +1,2 @@
+-- Inverted chains: test slices as the search sees them.
+pub mod Inversion
