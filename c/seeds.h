@@ -31,7 +31,7 @@ extern "C" {
 #define SEEDS_LONGEST_OUTPUT 145408
 
 /* Bytes of stack that are enough for every call: a thread may be made with just that many. */
-#define SEEDS_STACK 655360
+#define SEEDS_STACK 720896
 
 /* The same for seeds_stop alone, which keeps nothing for each slice. */
 #define SEEDS_STACK_STOP 512

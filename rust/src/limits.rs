@@ -13,6 +13,6 @@ pub const LONGEST_INPUT: usize = 169_601;
 /// Bytes of the longest text that a call writes: 2,048 slice lines of 64 chains.
 pub const LONGEST_OUTPUT: usize = 145_408;
 /// Bytes of stack that are enough for every call: a thread may be made with just that many.
-pub const STACK: usize = 655_360;
+pub const STACK: usize = 720_896;
 /// Bytes of stack that are enough for the library's call for a stop slice, which keeps nothing for each slice; what this package's function around it takes comes on top.
 pub const STACK_STOP: usize = 512;

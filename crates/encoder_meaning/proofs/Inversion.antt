@@ -8,7 +8,7 @@ use mathlib.Core.Option.{Option, Option·getD}
 use mathlib.Core.List.{List, [], _∷_, map}
 use Prim.Native.Nat.{ℕ}
 use lib.ListN.{length, length-map}
-use Rattle.refusal_causes.specs.Outcome.{Outcome, refuse, fill}
+use Rattle.refusal_causes.specs.Outcome.{fill}
 use Rattle.machine_settings.specs.declared.Settings.{Settings}
 use Rattle.machine_settings.specs.Machine.{Machine, machine}
 use Rattle.machine_slices.specs.declared.TestSlice.{TestSlice}
@@ -21,7 +21,7 @@ use Rattle.theory_covering.specs.Windows.{seedAt, ok}
 use Rattle.theory_covering.specs.Inversion.{flippedRules}
 use Rattle.theory_covering.proofs.Inversion.{inverted-set}
 use Rattle.theory_covering.proofs.Upright.{set-upright}
-use Rattle.encoder_meaning.specs.Encoding.{seedsOf, planned, encoding, encodeSet}
+use Rattle.encoder_meaning.specs.Encoding.{seedsOf, planned, encoding}
 use Rattle.encoder_meaning.specs.Inversion.{InvertedEncoding}
 use Rattle.encoder_meaning.proofs.Calls.{set-well}
 

@@ -3,12 +3,12 @@
 --     flipping-start, flipping-step, flipping-end     its laws
 -- Assumes nothing.
 use mathlib.Core.Path.{_≡_, refl, sym, ap, _∙_}
-use mathlib.Core.List.{List, [], _∷_, _++_}
-use Prim.Native.Nat.{ℕ, zero, suc, _+_, _≤_, _<_}
+use mathlib.Core.List.{List, [], _++_}
+use Prim.Native.Nat.{ℕ, _+_, _≤_, _<_}
 use native.Mathlib.Omega.{arith}
 use native.Mathlib.Numerals.{add-one}
-use lib.ListN.{length, getD, take, drop, set, length-set, drop-of-length-le}
-use lib.Seq.{sets, length-sets, drop-cons, sets-eq}
+use lib.ListN.{length, getD, drop, set, length-set, drop-of-length-le}
+use lib.Seq.{sets, drop-cons, sets-eq}
 use Rattle.machine_inversion.specs.Inversion.{flipped, flippedBits}
 use Rattle.machine_inversion.proofs.Inversion.{flipped-length}
 

@@ -10,7 +10,7 @@
 -- Assumes nothing.
 use mathlib.Core.Path.{_≡_, refl, sym, ap, ap₂, _∙_}
 use mathlib.Core.Logic.{⊎-elim}
-use mathlib.Core.Bool.{Bool, true, false, not, _||_}
+use mathlib.Core.Bool.{false}
 use mathlib.Core.List.{List, [], _∷_, _++_, map}
 use Prim.Native.Nat.{ℕ, zero, suc, _+_, _%_, _^_, _≤_, _<_, min}
 use native.Mathlib.Omega.{arith}
@@ -21,13 +21,13 @@ use lib.Seq.{take-at}
 use borrow.Author.Tests.{eq-eqb, ne-eqb}
 use Rattle.words_bounded.specs.Bounded.{any}
 use Rattle.words_bounded.proofs.Tests.{neither, eq-or-not}
-use Rattle.words_gf2.specs.Words.{digit, beyond}
+use Rattle.words_gf2.specs.Words.{digit}
 use Rattle.words_gf2.proofs.Digits.{digit-lt, digit-and, words-equal, beyond-no}
 use Rattle.words_gf2.proofs.Xor.{xor-twice, digit-xor}
 use Rattle.machine_slices.specs.Slices.{agrees, shows, paired, badSlice, badSlices, badStop}
 use Rattle.machine_slices.specs.declared.TestSlice.{TestSlice}
-use Rattle.machine_slices.proofs.Causes.{slices-equal, slice-last, stop-formed}
-use Rattle.machine_slices.proofs.Formed.{Formed, slice-formed, stop-slice, slices-all, all-slices}
+use Rattle.machine_slices.proofs.Causes.{slices-equal, slice-last}
+use Rattle.machine_slices.proofs.Formed.{slice-formed, slices-all, all-slices}
 use Rattle.machine_inversion.specs.Inversion.{flipped, flippedBits}
 
 -- ---- words

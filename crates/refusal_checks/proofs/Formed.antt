@@ -14,7 +14,6 @@ use Rattle.machine_settings.specs.declared.Settings.{Settings}
 use Rattle.machine_register.specs.Register.{badRegister}
 use Rattle.machine_chains.specs.Chains.{badChains}
 use Rattle.machine_chains.proofs.Causes.{chains-within}
-use Rattle.machine_settings.specs.Machine.{badChainsOf}
 use Rattle.machine_settings.proofs.Machine.{chains-good, chains-parts}
 use Rattle.words_gf2.specs.Words.{beyond}
 use Rattle.machine_slices.specs.declared.TestSlice.{TestSlice}

@@ -6,7 +6,7 @@ use mathlib.Core.Path.{_≡_, refl, sym, ap, ap₂, fun-ext, _∙_}
 use mathlib.Core.Bool.{Bool, not, _&&_, _||_}
 use mathlib.Core.List.{List, [], _∷_, map}
 use Prim.Native.Nat.{ℕ, zero, suc, _-_}
-use lib.Bits.{bitXor, xor-zero-r}
+use lib.Bits.{xor-zero-r}
 use lib.ListN.{length, take, drop, length-map}
 use Rattle.words_bounded.specs.Bounded.{leastBelow}
 use Rattle.machine_settings.specs.declared.Settings.{Settings}
@@ -18,7 +18,7 @@ use Rattle.machine_inversion.specs.Inversion.{flipped, upright}
 use Rattle.machine_inversion.proofs.Inversion.{flipped-agrees, flipped-shows}
 use Rattle.theory_covering.specs.Covering.{fits, quiet, covers, seedOf}
 use Rattle.theory_covering.specs.Rules.{Rules}
-use Rattle.theory_covering.specs.Windows.{part, far, placed, closes, seedAt, found, ok}
+use Rattle.theory_covering.specs.Windows.{part, far, placed, closes, seedAt, ok}
 use Rattle.theory_covering.specs.Inversion.{flippedRules, InvertedWindow, InvertedSet}
 
 module _ (f : TestSlice → TestSlice) where

@@ -3,11 +3,9 @@
 --     seed-upright                    the seed of a window is the same
 -- Assumes nothing.
 use mathlib.Core.Path.{_≡_, sym, ap, _∙_}
-use mathlib.Core.Bool.{Bool, true, false}
-use mathlib.Core.Option.{Option}
-use mathlib.Core.List.{List, map}
+use mathlib.Core.Bool.{true, false}
+use mathlib.Core.List.{List}
 use Prim.Native.Nat.{ℕ}
-use native.Mathlib.Omega.{arith}
 use lib.ListN.{length}
 use lib.Pow.{pow-pos}
 use Rattle.words_gf2.specs.Words.{beyond}
@@ -15,7 +13,7 @@ use Rattle.words_gf2.proofs.Digits.{beyond-no}
 use Rattle.machine_settings.specs.declared.Settings.{Settings}
 use Rattle.machine_settings.specs.Machine.{noneInverted, machine}
 use Rattle.machine_slices.specs.declared.TestSlice.{TestSlice}
-use Rattle.machine_slices.specs.Slices.{badSlices, badStop, paired}
+use Rattle.machine_slices.specs.Slices.{paired}
 use Rattle.machine_inversion.specs.Inversion.{flipped, flippedBits, upright}
 use Rattle.machine_inversion.proofs.Inversion.{flipped-paired, slices-flipped, stop-flipped}
 use Rattle.refusal_order.specs.Order.{judged}

@@ -1,10 +1,8 @@
 -- `machine_inversion::flip_bits` meets its contract. Assumes nothing.
-use mathlib.Core.Path.{sym, ap}
-use Prim.Native.Nat.{ℕ, _-_}
+use Prim.Native.Nat.{_-_}
 use native.Mathlib.Omega.{arith}
-use lib.ListN.{length, set}
+use lib.ListN.{length}
 use borrow.Author.Needs.{needs}
-use Rattle.machine_slices.specs.declared.TestSlice.{TestSlice}
 use Rattle.machine_inversion.proofs.Flipping.{Flipping, flipping-start, flipping-step, flipping-end}
 use Rattle.machine_inversion.proofs.flip_bits.Statement.{statement}
 use Rattle.machine_inversion.proofs.flip_bits.Tie as tie
