@@ -6,3 +6,4 @@ pub mod Walks
 pub mod Places
 pub mod Running
 pub mod LastSeed
+pub mod Inversion

@@ -1,4 +1,5 @@
 -- Covering under inverted chains is covering without, of test slices and a stop slice that are flipped (document 02, R-4).
+--     shows-inverted      of a state's slice: it shows the stop slice exactly when the slice without inversion shows the flipped one
 --     inverted-window     of a window
 --     inverted-set        of the windows of a set
 -- Assumes nothing.
@@ -46,18 +47,18 @@ module _ (g : Settings) (masks : List ℕ) where
   agrees-at t s = flipped-agrees (g .invert) t (slice masks s) ∙ ap (agrees (flip t)) (sym (xor-zero-r (slice masks s)))
 
   module _ (stop : TestSlice) where
-    shows-at : (s : ℕ) → shows stop (M .slice s) ≡ shows (flip stop) (N .slice s)
-    shows-at s = flipped-shows (g .invert) stop (slice masks s) ∙ ap (shows (flip stop)) (sym (xor-zero-r (slice masks s)))
+    pub shows-inverted : (s : ℕ) → shows stop (M .slice s) ≡ shows (flip stop) (N .slice s)
+    shows-inverted s = flipped-shows (g .invert) stop (slice masks s) ∙ ap (shows (flip stop)) (sym (xor-zero-r (slice masks s)))
 
     fits-inverted : (closing : Bool) (w : List TestSlice) (s : ℕ) → fits M stop closing w s ≡ fits N (flip stop) closing (map flip w) s
     unfolding fits
-    fits-inverted closing [] s = ap (λ (b : Bool). not closing || b) (shows-at s)
+    fits-inverted closing [] s = ap (λ (b : Bool). not closing || b) (shows-inverted s)
     fits-inverted closing (t ∷ w) s = ap₂ _&&_ (agrees-at t s) (fits-inverted closing w (M .step s))
 
     quiet-inverted : (m s : ℕ) → quiet M stop m s ≡ quiet N (flip stop) m s
     unfolding quiet
     quiet-inverted zero s = refl
-    quiet-inverted (suc m) s = ap₂ (λ (a b : Bool). not a && b) (shows-at s) (quiet-inverted m (M .step s))
+    quiet-inverted (suc m) s = ap₂ (λ (a b : Bool). not a && b) (shows-inverted s) (quiet-inverted m (M .step s))
 
     covers-inverted : (closing : Bool) (w : List TestSlice) (s : ℕ) → covers M stop closing w s ≡ covers N (flip stop) closing (map flip w) s
     unfolding covers
