@@ -21,6 +21,7 @@ pub fn of_r(stop: &str, slices: &[&str]) -> Call {
         cells: R_CELLS,
         taps: R_TAPS,
         limit: DEFAULT_LIMIT,
+        invert: 0,
         masks: R_MASKS.to_vec(),
         stop: second::slice_of(stop.as_bytes(), 2).expect("a stop slice"),
         depth: 1,

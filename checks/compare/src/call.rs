@@ -12,6 +12,8 @@ pub struct Call {
     pub taps: u64,
     /// Most slices of a window.
     pub limit: usize,
+    /// The chains that deliver the opposite bit, in slice weights.
+    pub invert: u64,
     pub masks: Vec<u64>,
     pub stop: (u64, u64),
     pub depth: usize,
@@ -28,12 +30,18 @@ pub fn refused<T>(number: u64, value: usize) -> Result<T, Refused> {
 }
 
 impl Call {
+    /// The slice of a state, as it is delivered.
+    pub fn slice_of(&self, state: u64) -> u64 {
+        second::slice(&self.masks, self.invert, state)
+    }
+
     pub fn window_seed(&self) -> Result<u64, Refused> {
         let (cells, (positions, values)) = (self.cells as u64, self.stop);
         second::window_seed(
             cells,
             self.taps,
             self.limit as u64,
+            self.invert,
             &self.masks,
             positions,
             values,
@@ -48,6 +56,7 @@ impl Call {
             cells,
             self.taps,
             self.limit as u64,
+            self.invert,
             &self.masks,
             positions,
             values,
@@ -63,6 +72,7 @@ impl Call {
             cells,
             self.taps,
             self.limit as u64,
+            self.invert,
             &self.masks,
             depth,
             &self.specified,
@@ -82,6 +92,7 @@ impl Call {
             cells,
             self.taps,
             self.limit as u64,
+            self.invert,
             &self.masks,
             positions,
             values,
@@ -98,6 +109,7 @@ impl Call {
             cells,
             self.taps,
             self.limit as u64,
+            self.invert,
             &self.masks,
             positions,
             values,
@@ -113,6 +125,7 @@ impl Call {
             cells,
             self.taps,
             self.limit as u64,
+            self.invert,
             &self.masks,
             positions,
             values,

@@ -82,11 +82,11 @@ fn compare_refused(random: &mut Random, pool: &Pool, seen: &mut Seen) -> Outcome
     compare_rooms(random, &call, total, seen)
 }
 
-/// Damages one part of a list: register, chains, total, number of seeds or stop slice.
+/// Damages one part of a list: register, chains, inverted ones, total, number of seeds or stop slice.
 fn damage(random: &mut Random, call: &mut Call) {
     let far = random.beyond(call.cells);
     let place = random.between(0, call.masks.len().max(1) - 1);
-    match random.below(10) {
+    match random.below(11) {
         0 => call.cells = [0, 65, call.cells | 1 << 32, usize::MAX][random.between(0, 3)],
         1 => call.taps |= far,
         2 => call.taps &= random.bits(call.cells.saturating_sub(1)),
@@ -99,6 +99,7 @@ fn damage(random: &mut Random, call: &mut Call) {
         }
         6 => call.slices = [0, 2_049, call.slices | 1 << 32, usize::MAX][random.between(0, 3)],
         7 => call.seeds.resize(2_049, 1),
+        8 => call.invert |= random.beyond(call.masks.len()),
         _ => damage_stop(random, call),
     }
 }

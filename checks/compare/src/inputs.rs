@@ -16,6 +16,16 @@ fn lawful_slice(random: &mut Random, chains: usize, percent: u64) -> (u64, u64) 
     (specified, random.word() & specified)
 }
 
+/// Inverted chains of so many: in one of two calls none, otherwise all, one, or any.
+pub fn any_invert(random: &mut Random, chains: usize) -> u64 {
+    match random.below(8) {
+        0..=3 => 0,
+        4 => u64::MAX >> (64 - chains),
+        5 => 1 << random.between(0, chains - 1),
+        _ => random.bits(chains),
+    }
+}
+
 /// A lawful call with at most `most_cells` cells, `most_chains` chains and `most_slices` slices.
 pub fn lawful(
     random: &mut Random,
@@ -42,6 +52,7 @@ pub fn lawful(
         cells,
         taps,
         limit: DEFAULT_LIMIT,
+        invert: any_invert(random, chains),
         masks,
         stop,
         depth,
@@ -69,6 +80,7 @@ pub fn shaped(random: &mut Random, cells: usize, chains: usize) -> Call {
     Call {
         cells,
         taps,
+        invert: any_invert(random, chains),
         masks,
         stop: (1, random.below(2)),
         ..lawful(random, 1, 1, 1)
@@ -135,7 +147,7 @@ pub fn damage(random: &mut Random, call: &mut Call) {
             random.below(n as u64) as usize
         }
     };
-    match random.below(18) {
+    match random.below(19) {
         0 => call.cells = [0, 65, 66, 1 << 40, usize::MAX][random.between(0, 4)],
         1 => call.taps = random.word(),
         2 => {
@@ -189,7 +201,10 @@ pub fn damage(random: &mut Random, call: &mut Call) {
         }
         14 => call.stop = (0, 0),
         15 => call.stop = (random.word(), random.bits(chains)),
-        16 => call.slices = [0, 2048, 2049, usize::MAX][random.between(0, 3)],
+        16 => {
+            call.invert = [random.word(), call.invert | random.beyond(chains)][random.between(0, 1)]
+        }
+        17 => call.slices = [0, 2048, 2049, usize::MAX][random.between(0, 3)],
         _ => call.seeds = vec![1; [0, 2047, 2048, 2049][random.between(0, 3)]],
     }
 }
@@ -198,7 +213,7 @@ pub fn damage(random: &mut Random, call: &mut Call) {
 pub fn damage_lightly(random: &mut Random, call: &mut Call) {
     let chains = call.masks.len();
     let place = random.below(call.specified.len().max(1) as u64) as usize;
-    match random.below(10) {
+    match random.below(11) {
         0 => call.cells = [0, 65, 66][random.between(0, 2)],
         1 => call.taps = random.bits(7),
         2 => call.masks.clear(),
@@ -211,6 +226,7 @@ pub fn damage_lightly(random: &mut Random, call: &mut Call) {
         6 => drop(call.bits.pop()),
         7 => call.bits[place] = random.bits(chains + 1),
         8 => call.specified[place] = random.bits(chains + 1),
+        9 => call.invert = random.bits(chains + 1),
         _ => call.stop = (random.bits(chains + 1), random.bits(chains)),
     }
 }

@@ -7,10 +7,10 @@ use crate::random::Random;
 use crate::sheets::{limited, list, sheet};
 use crate::text::{Program, Text};
 
-/// Bytes of the largest lawful sheet: 64 cells and chains, a window line, 2,048 slices, every number as long as can be.
-const LARGEST_SHEET: usize = 146_942;
+/// Bytes of the largest lawful sheet: 64 cells and chains, an invert and a window line, 2,048 slices, every number as long as can be.
+const LARGEST_SHEET: usize = 146_966;
 /// Bytes of the largest lawful list.
-const LARGEST_LIST: usize = 46_662;
+const LARGEST_LIST: usize = 46_686;
 /// Bytes of the longest text that is printed: 2,048 slices of 64 chains.
 const LARGEST_SLICES: usize = 145_408;
 
@@ -19,28 +19,30 @@ const SLICE_LINE: usize = 71;
 
 const TOP: u64 = 1 << 63;
 
-/// A call of so many chains and slices for 64 cells. Its seeds have cell 63 set, their slice has a 1 for the first chain and the slice after it a 0; the test slices are theirs, whole.
+/// A call of so many chains and slices for 64 cells, its last chain inverted and others too. Its seeds have cell 63 set, their slice has a 1 for the first chain and the slice after it a 0; the test slices are theirs, whole.
 /// The stop slice steps set the first position to 0, so each seed delivers its slice and no more.
 fn one_by_one(random: &mut Random, chains: usize, count: usize) -> Call {
     let taps = random.word() | TOP;
     let masks: Vec<u64> = (0..chains).map(|_| random.word() | TOP).collect();
-    let first = |state| second::slice(&masks, state) & 1;
+    let invert = random.bits(chains) | 1 << (chains - 1);
+    let slice = |state| second::slice(&masks, invert, state);
     let mut seeds = Vec::new();
     while seeds.len() < count {
         let state = random.word() | TOP;
-        if first(state) == 1 && first(second::step(64, taps, state)) == 0 {
+        if slice(state) & 1 == 1 && slice(second::step(64, taps, state)) & 1 == 0 {
             seeds.push(state);
         }
     }
-    let slices = seeds.iter().map(|&state| second::slice(&masks, state));
+    let slices = seeds.iter().map(|&state| slice(state)).collect();
     Call {
         cells: 64,
         taps,
         limit: DEFAULT_LIMIT,
+        invert,
         stop: (1, 0),
         depth: 256,
         specified: vec![u64::MAX >> (64 - chains); count],
-        bits: slices.collect(),
+        bits: slices,
         slices: count,
         masks,
         seeds,

@@ -6,7 +6,7 @@ use crate::library::{self, Like, SliceAnswer, StateAnswer};
 use crate::random::Random;
 use crate::report::{same, Outcome};
 use crate::seen::Seen;
-use second::{check_chains, check_register, Refused};
+use second::{check_chains, check_invert, check_register, Refused};
 
 /// Cause 10 of a state: it is the one seed that is handed in, so its place is 0.
 fn check_state(cells: usize, state: u64) -> Result<(), Refused> {
@@ -27,8 +27,9 @@ pub fn stepped(call: &Call, state: u64) -> Result<u64, Refused> {
 pub fn sliced(call: &Call, state: u64) -> Result<u64, Refused> {
     check_register(call.cells as u64, call.taps)?;
     check_chains(call.cells as u64, &call.masks)?;
+    check_invert(call.masks.len() as u64, call.invert)?;
     check_state(call.cells, state)?;
-    Ok(second::slice(&call.masks, state))
+    Ok(call.slice_of(state))
 }
 
 /// A state of the call's cells; one time in eight any word.
@@ -136,10 +137,11 @@ pub fn checks() -> Outcome {
     Ok(count)
 }
 
-/// Whether the second program refuses the register, the chains or the test slices: then none of its calls searches.
+/// Whether the second program refuses the register, the chains, the inverted ones or the test slices: then none of its calls searches.
 fn refused_unsearched(call: &Call) -> bool {
     check_register(call.cells as u64, call.taps).is_err()
         || check_chains(call.cells as u64, &call.masks).is_err()
+        || check_invert(call.masks.len() as u64, call.invert).is_err()
         || second::check_slices(call.masks.len() as u64, &call.specified, &call.bits).is_err()
 }
 

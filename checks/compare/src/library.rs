@@ -107,9 +107,11 @@ pub fn expand_text(text: &mut [u8], out: &mut [u8]) -> TextAnswer {
 }
 
 impl Call {
-    /// The register with its limit.
+    /// The register with its limit and its inverted chains.
     pub fn settings(&self) -> Settings {
-        Settings::new(self.cells, self.taps).with_limit(self.limit)
+        Settings::new(self.cells, self.taps)
+            .with_limit(self.limit)
+            .with_invert(self.invert)
     }
 
     pub fn machine(&self) -> Machine<'_> {

@@ -11,6 +11,7 @@ mod encodes;
 mod expands;
 mod figure;
 mod inputs;
+mod inverted;
 mod known;
 mod largest;
 mod leaves;
@@ -109,6 +110,7 @@ fn main() -> ExitCode {
     library_leaves(&mut report);
     library_encodes(&mut report);
     library_limits(&mut report);
+    library_inverts(&mut report);
     library_texts(&mut report, texts::RANDOM_TEXTS);
     program_texts(&mut report, programs::RANDOM_TEXTS);
     if report.end() {
@@ -195,11 +197,39 @@ fn library_limits(report: &mut Report) {
     report.case("library: growing limits", growing::answers());
 }
 
+/// The library under inverted chains.
+fn library_inverts(report: &mut Report) {
+    use inverted::{every, many, outside, stops, turning, zero};
+    report.case("library: inverted chains of the bench", every::examples());
+    report.case("library: every mask of few chains, slices", every::slices());
+    report.case(
+        "library: every mask of few chains against brute force",
+        every::random_sets(),
+    );
+    report.case("library: every mask of few chains, lists", every::lists());
+    report.case("library: masks, every small set", every::every_small_set());
+    report.case(
+        "library: masks, every small list",
+        every::every_small_list(),
+    );
+    report.case("library: masks, state 0", zero::answers());
+    report.case("library: masks beyond the chains", outside::answers());
+    report.case("library: masks of many chains", many::answers());
+    report.case("library: bits turned with chains", turning::answers());
+    report.case("library: stop slice under masks", stops::answers());
+}
+
 /// The library's entries for texts.
 fn library_texts(report: &mut Report, count: usize) {
     report.texts("library: known texts", texts::known(known::all()));
     report.texts("library: known window lines", texts::known(lines::all()));
+    let known = texts::known(inverted::lines::all());
+    report.texts("library: known invert lines", known);
+    let orders = inverted::orders::by_library();
+    report.texts("library: invert and window lines in every order", orders);
     report.texts("library: texts at every limit", by_library());
+    let masks = inverted::texts::by_library();
+    report.texts("library: texts under masks", masks);
     report.texts("library: texts byte by byte", texts::byte_by_byte());
     report.texts("library: large texts", texts::large());
     report.texts("library: random texts", texts::random(count));
@@ -215,8 +245,14 @@ fn program_texts(report: &mut Report, count: usize) {
     report.texts("programs: known texts", known);
     let lines = programs::known(&paths, lines::all());
     report.texts("programs: known window lines", lines);
+    let lines = programs::known(&paths, inverted::lines::all());
+    report.texts("programs: known invert lines", lines);
+    let orders = inverted::orders::by_programs(&paths);
+    report.texts("programs: invert and window lines in every order", orders);
     report.texts("programs: texts cut off", programs::cut(&paths));
     report.texts("programs: texts at every limit", by_programs(&paths));
+    let masks = inverted::texts::by_programs(&paths);
+    report.texts("programs: texts under masks", masks);
     report.texts("programs: large texts", programs::large(&paths));
     report.texts("programs: pieces and pauses", programs::in_pieces(&paths));
     report.texts("programs: encode into expand", programs::both(&paths));

@@ -31,9 +31,10 @@ fn out_of_range(kind: Kind, call: &Call) -> bool {
 pub fn holding(kind: Kind, call: &Call) -> Vec<u64> {
     let (cells, chains) = (call.cells as u64, call.masks.len() as u64);
     let (positions, values) = call.stop;
+    let beyond = second::check_invert(chains, call.invert).is_err();
     let holds = [
         second::check_register(cells, call.taps).is_err(),
-        second::check_chains(cells, &call.masks).is_err(),
+        second::check_chains(cells, &call.masks).is_err() || beyond,
         out_of_range(kind, call),
         second::check_slices(chains, &call.specified, &call.bits).is_err(),
         kind != Kind::Cubes && second::check_stop(chains, positions, values).is_err(),

@@ -40,6 +40,9 @@ pub fn empty_line(random: &mut Random, lines: &mut Lines) {
 /// A line of this kind of text or of the other, anywhere.
 pub fn inserted(random: &mut Random, lines: &mut Lines) {
     let others = [
+        "invert=0\n",
+        "invert=1\n",
+        "invert=3\n",
         "window=1\n",
         "window=2\n",
         "window=256\n",

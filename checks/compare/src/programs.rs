@@ -149,7 +149,7 @@ pub fn known(paths: &Paths, known: Vec<Known>) -> Result<Tally, String> {
     compare_whole(paths, known.into_iter().map(|(text, _)| text))
 }
 
-/// Document 01's sheet and list, without and with a window line, cut after each byte.
+/// Document 01's sheet and list, without more lines, with a window line and with an invert line before it, cut after each byte.
 pub fn cut(paths: &Paths) -> Result<Tally, String> {
     compare_whole(paths, cuts().into_iter())
 }

@@ -29,39 +29,48 @@ fn named(text: &Text, told: &Told) -> String {
     }
 }
 
-/// Notes the answer, and whether the text has a window line.
+/// Notes the answer, and whether the text has a window line and an invert line.
 pub fn note(text: &Text, told: &Told, seen: &mut Seen) {
     let (program, answer) = (text.program.name(), named(text, told));
     seen.note(&format!("{program}, {answer}"));
-    let mut lines = text.bytes.split_inclusive(|&byte| byte == b'\n');
-    if lines.any(|line| line.starts_with(b"window=")) {
-        seen.note(&format!("{program}, {answer} with a window line"));
+    for (key, line) in [("window=", "a window line"), ("invert=", "an invert line")] {
+        let mut lines = text.bytes.split_inclusive(|&byte| byte == b'\n');
+        if lines.any(|line| line.starts_with(key.as_bytes())) {
+            seen.note(&format!("{program}, {answer} with {line}"));
+        }
     }
 }
 
 /// What must be met in sheets.
-const SHEETS: [&str; 26] = [
+const SHEETS: [&str; 33] = [
     "accepted",
     "accepted with a window line",
+    "accepted with an invert line",
     "1 at cells=",
     "1 at taps=",
     "2 at chains=",
     "2 at chain=",
+    "2 at invert=",
     "3",
     "3 at window=",
     "3 at depth=",
     "3 at slice=",
     "6",
     "6 with a window line",
+    "6 with an invert line",
     "8",
     "8 with a window line",
+    "8 with an invert line",
     "13 at cells=",
     "13 at taps=",
     "13 at chains=",
     "13 at chain=",
+    "13 at invert=",
     "13 at window=",
+    "13 at window= with an invert line",
     "13 at depth=",
     "13 at depth= with a window line",
+    "13 at depth= with an invert line",
     "13 at slice=",
     "13 at stop=",
     "13 at seed=",
@@ -70,13 +79,15 @@ const SHEETS: [&str; 26] = [
 ];
 
 /// What must be met in lists.
-const LISTS: [&str; 29] = [
+const LISTS: [&str; 36] = [
     "accepted",
     "accepted with a window line",
+    "accepted with an invert line",
     "1 at cells=",
     "1 at taps=",
     "2 at chains=",
     "2 at chain=",
+    "2 at invert=",
     "3 at window=",
     "3 at slices=",
     "3 at seed=",
@@ -84,13 +95,17 @@ const LISTS: [&str; 29] = [
     "10",
     "11",
     "11 with a window line",
+    "11 with an invert line",
     "12",
     "12 with a window line",
+    "12 with an invert line",
     "13 at cells=",
     "13 at taps=",
     "13 at chains=",
     "13 at chain=",
+    "13 at invert=",
     "13 at window=",
+    "13 at window= with an invert line",
     "13 at stop=",
     "13 at slices=",
     "13 at seed=",
@@ -100,6 +115,7 @@ const LISTS: [&str; 29] = [
     "13 at the end",
     "14",
     "14 with a window line",
+    "14 with an invert line",
 ];
 
 /// Fails unless each cause that a text can give was met, of a line with each key that can have it.

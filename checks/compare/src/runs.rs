@@ -1,7 +1,7 @@
 // Registers with states that run into a stop slice, and what the second program says to each of these states alone.
 
 use crate::call::Call;
-use crate::inputs::lawful;
+use crate::inputs::{any_invert, lawful};
 use crate::random::Random;
 
 /// A lawful call with states to take its seeds from, and what the second program says to each alone.
@@ -79,7 +79,7 @@ pub fn pool_of(random: &mut Random, mut call: Call) -> Pool {
     }
     let percent = [15, 40, 100][random.between(0, 2)];
     let specified = random.sparse(chains, percent).max(1);
-    call.stop = (specified, second::slice(&call.masks, state) & specified);
+    call.stop = (specified, call.slice_of(state) & specified);
     seeds.push(state);
     for place in 0..14 {
         let far = if place < 2 { random.beyond(cells) } else { 0 };
@@ -93,6 +93,7 @@ pub fn walk(random: &mut Random, cells: usize) -> (Call, Vec<u64>) {
     let mut call = lawful(random, 1, 1, 1);
     call.cells = cells;
     call.masks = (0..cells).map(|cell| 1 << cell).collect();
+    call.invert = any_invert(random, cells);
     loop {
         call.taps = random.bits(cells) | 1 << (cells - 1);
         random.shuffle(&mut call.masks);
@@ -104,7 +105,7 @@ pub fn walk(random: &mut Random, cells: usize) -> (Call, Vec<u64>) {
         }
         states.reverse();
         let all = u64::MAX >> (64 - cells);
-        call.stop = (all, second::slice(&call.masks, state));
+        call.stop = (all, call.slice_of(state));
         // each chain reads a cell, so no other state has that slice
         if !states[1..].contains(&state) {
             return (call, states);

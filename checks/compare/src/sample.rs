@@ -7,7 +7,7 @@ mod table;
 mod texts;
 
 use crate::random::Random;
-use calls::Limits;
+use calls::Given;
 use std::collections::{BTreeMap, BTreeSet};
 use std::fmt::Write;
 use std::fs;
@@ -101,7 +101,7 @@ use lib.Count.{ones, onesIn}
 use Rattle.refusal_causes.specs.declared.Cause.the-variants as cause
 use Rattle.refusal_causes.specs.declared.Written.the-variants as written
 use Rattle.refusal_causes.specs.Outcome.{Outcome}
-use Rattle.machine_settings.specs.Machine.{base}
+use Rattle.machine_settings.specs.Machine.{base, machine}
 use Rattle.machine_slices.specs.declared.TestSlice.{TestSlice}
 use Rattle.encoder_meaning.specs.declared.Encoded.the-variants as encoded-cubes
 use Rattle.encoder_cubes.specs.Cubes.{CubesOutcome}
@@ -116,7 +116,7 @@ use Rattle.text_calls.specs.Texts.{encodeText, expandText}
 /// Writes the file and answers how many answers it states.
 pub fn write(root: &Path, file: &Path) -> io::Result<usize> {
     let mut random = Random(9);
-    let (default, any) = (Limits::Default, Limits::Any);
+    let (default, limits, inverts) = (Given::Neither, Given::Limits, Given::Inverts);
     let tables = [
         calls::windows(&mut random, default, 500),
         calls::sets(&mut random, default, 400),
@@ -125,11 +125,17 @@ pub fn write(root: &Path, file: &Path) -> io::Result<usize> {
         texts::texts(&mut random, default, 800),
         stops::stages(&mut random, 100),
         calls::cubes(&mut random, default, 100),
-        calls::windows(&mut random, any, 200),
-        calls::sets(&mut random, any, 200),
-        calls::cubes(&mut random, any, 200),
-        calls::lists(&mut random, any, 200),
-        texts::texts(&mut random, any, 400),
+        calls::windows(&mut random, limits, 200),
+        calls::sets(&mut random, limits, 200),
+        calls::cubes(&mut random, limits, 200),
+        calls::lists(&mut random, limits, 200),
+        texts::texts(&mut random, limits, 400),
+        calls::slices(&mut random, 100),
+        calls::windows(&mut random, inverts, 75),
+        calls::sets(&mut random, inverts, 75),
+        calls::cubes(&mut random, inverts, 75),
+        calls::lists(&mut random, inverts, 75),
+        texts::texts(&mut random, inverts, 100),
     ];
     let (lines, names) = definitions(root)?;
     let unfolding = format!("ones onesIn {}", names.join(" "));

@@ -1,4 +1,4 @@
-// Sheets and seed lists as lines: of a call, with a window line or without, and random lawful ones.
+// Sheets and seed lists as lines: of a call, with a window line or without, with an invert line or without, and random lawful ones.
 
 use crate::call::{Call, DEFAULT_LIMIT};
 use crate::encodes::small;
@@ -11,6 +11,7 @@ use crate::wide;
 /// Lines, each with its line feed.
 pub type Lines = Vec<Vec<u8>>;
 
+/// The lines before depth or stop; an invert line where a chain is inverted, and no window line.
 fn head(call: &Call) -> Vec<String> {
     let mut lines = vec![
         format!("cells={}\n", call.cells),
@@ -18,6 +19,9 @@ fn head(call: &Call) -> Vec<String> {
         format!("chains={}\n", call.masks.len()),
     ];
     lines.extend(call.masks.iter().map(|mask| format!("chain={mask:x}\n")));
+    if call.invert != 0 {
+        lines.push(format!("invert={:x}\n", call.invert));
+    }
     lines
 }
 
@@ -46,10 +50,23 @@ pub fn list(call: &Call) -> Lines {
     as_bytes(lines)
 }
 
-/// The same lines with a window line behind the chain lines.
+/// The line behind the last one that has one of these keys.
+fn behind(lines: &Lines, keys: &[&[u8]]) -> usize {
+    let found = |line: &Vec<u8>| keys.iter().any(|key| line.starts_with(key));
+    lines.iter().rposition(found).map_or(0, |place| place + 1)
+}
+
+/// The same lines with an invert line behind the chain lines, in place of the one that they may have.
+pub fn inverted(mut lines: Lines, invert: u64) -> Lines {
+    lines.retain(|line| !line.starts_with(b"invert="));
+    let behind = behind(&lines, &[b"chain="]);
+    lines.insert(behind, format!("invert={invert:x}\n").into_bytes());
+    lines
+}
+
+/// The same lines with a window line behind the chain lines and the invert line.
 pub fn limited(mut lines: Lines, limit: usize) -> Lines {
-    let chain = |line: &Vec<u8>| line.starts_with(b"chain=");
-    let behind = lines.iter().rposition(chain).map_or(0, |place| place + 1);
+    let behind = behind(&lines, &[b"chain=", b"invert="]);
     lines.insert(behind, format!("window={limit}\n").into_bytes());
     lines
 }
@@ -127,7 +144,7 @@ fn made(random: &mut Random, limit: usize) -> Call {
     call
 }
 
-/// A random sheet or list at a limit, without a window line; most are lawful.
+/// A random sheet or list at a limit, without a window line; most are lawful. About half have an invert line.
 pub fn any_at(random: &mut Random, program: Program, limit: usize) -> Lines {
     let set = |random: &mut Random| Call {
         limit,
@@ -144,12 +161,23 @@ pub fn any_at(random: &mut Random, program: Program, limit: usize) -> Lines {
     list(&made(random, limit))
 }
 
-/// A random sheet or list; every second has a window line, most of them with a small limit.
+/// The same lines, now and then with an invert line of 0 where they have none.
+fn zeroed(random: &mut Random, lines: Lines) -> Lines {
+    let named = lines.iter().any(|line| line.starts_with(b"invert="));
+    match random.one_in(8) && !named {
+        true => inverted(lines, 0),
+        false => lines,
+    }
+}
+
+/// A random sheet or list; every second has a window line, most of them with a small limit, and about every second an invert line.
 pub fn any(random: &mut Random, program: Program) -> Lines {
     if random.one_in(2) {
-        return any_at(random, program, DEFAULT_LIMIT);
+        let lines = any_at(random, program, DEFAULT_LIMIT);
+        return zeroed(random, lines);
     }
     let most = [4, 20, 60, 256][random.between(0, 3)];
     let limit = [random.between(1, most), 256][usize::from(random.one_in(8))];
-    limited(any_at(random, program, limit), limit)
+    let lines = any_at(random, program, limit);
+    limited(zeroed(random, lines), limit)
 }

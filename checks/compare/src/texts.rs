@@ -110,13 +110,14 @@ pub fn known(texts: Vec<Known>) -> Result<Tally, String> {
     Ok(tally)
 }
 
-/// Document 01's sheet and list, and the same with a window line.
+/// Document 01's sheet and list, and the same with a window line and with both lines.
 fn sheet_and_list() -> Vec<Text> {
     let mut texts = Vec::new();
     for (program, text) in [(Program::Encode, SHEET), (Program::Expand, LIST)] {
         texts.push(Text::new(program, text.into()));
-        let limited = put(text.as_bytes(), 6, b"window=25\n");
-        texts.push(Text::new(program, limited));
+        for lines in [&b"window=25\n"[..], b"invert=2\nwindow=25\n"] {
+            texts.push(Text::new(program, put(text.as_bytes(), 6, lines)));
+        }
     }
     texts
 }
@@ -153,7 +154,7 @@ fn byte_changes(
     Ok(())
 }
 
-/// Document 01's sheet and list, without and with a window line, cut after each byte, and with each byte changed in every way.
+/// Document 01's sheet and list, without more lines, with a window line and with an invert line before it, cut after each byte, and with each byte changed in every way.
 pub fn byte_by_byte() -> Result<Tally, String> {
     let mut random = Random(22);
     let mut tally = Tally::default();

@@ -5,9 +5,9 @@ use crate::random::Random;
 use crate::sheets::Lines;
 
 /// Every key, in the order of a sheet and then of a list.
-pub const KEYS: [&[u8]; 10] = [
-    b"cells=", b"taps=", b"chains=", b"chain=", b"window=", b"depth=", b"slice=", b"stop=",
-    b"slices=", b"seed=",
+pub const KEYS: [&[u8]; 11] = [
+    b"cells=", b"taps=", b"chains=", b"chain=", b"invert=", b"window=", b"depth=", b"slice=",
+    b"stop=", b"slices=", b"seed=",
 ];
 
 /// Puts another value behind a line's key.

@@ -45,12 +45,12 @@ pub fn examples() -> Outcome {
 fn fits(call: &Call, state: u64) -> bool {
     let mut now = state;
     for (&specified, &bits) in call.specified.iter().zip(&call.bits) {
-        if !second::agrees(specified, bits, second::slice(&call.masks, now)) {
+        if !second::agrees(specified, bits, call.slice_of(now)) {
             return false;
         }
         now = second::step(call.cells as u64, call.taps, now);
     }
-    second::shows(call.stop.0, call.stop.1, second::slice(&call.masks, now))
+    second::shows(call.stop.0, call.stop.1, call.slice_of(now))
 }
 
 /// Notes where states fit that show the stop early, and how long a covered window is.

@@ -14,7 +14,7 @@ impl Numbers {
 }
 
 /// Lines that a text may get.
-const LINES: [&[u8]; 22] = [
+const LINES: [&[u8]; 28] = [
     b"cells=3\n",
     b"cells=64\n",
     b"taps=6\n",
@@ -22,6 +22,12 @@ const LINES: [&[u8]; 22] = [
     b"chains=2\n",
     b"chain=1\n",
     b"chain=5\n",
+    b"invert=0\n",
+    b"invert=1\n",
+    b"invert=2\n",
+    b"invert=3\n",
+    b"invert=4\n",
+    b"invert=ffffffffffffffff\n",
     b"window=1\n",
     b"window=2\n",
     b"window=3\n",

@@ -1,5 +1,5 @@
 // The entries by numbers against the second program: the answers, and every entry of each lent buffer.
-// Document 01, "Refusal sheet"; document 02, R-3. A check's number is the refusal by 1 to 5 that the second program's call gives.
+// Document 01, "Refusal sheet"; document 02, R-3 and R-4. A check's number is the refusal by 1 to 5 that the second program's call gives.
 
 use crate::lent::{lend, room};
 use crate::parts::{weights, Bytes, Parts};
@@ -45,7 +45,9 @@ fn entry(place: usize) -> u64 {
 /// A call's parts in the wrapper's words.
 impl Parts {
     fn machine(&self) -> Machine<'_> {
-        let settings = Settings::new(self.cells, self.taps).with_limit(self.limit);
+        let settings = Settings::new(self.cells, self.taps)
+            .with_limit(self.limit)
+            .with_invert(self.invert);
         Machine::new(settings, &self.masks)
     }
 
@@ -75,7 +77,7 @@ fn check_state(cells: usize, state: u64) -> Result<(), Refused> {
     }
 }
 
-/// One step and the slice of a state, which do not look at the limit.
+/// One step and the slice of a state, which do not look at the limit; a step does not look at the inverted chains either.
 fn state(p: &Parts, word: u64, choice: u8) {
     let state = match choice % 4 {
         0 => word,
@@ -93,13 +95,14 @@ fn state(p: &Parts, word: u64, choice: u8) {
     };
     assert_eq!(ours, known, "the step");
     let judged = judged.and_then(|_| second::check_chains(cells, &p.masks));
+    let judged = judged.and_then(|_| second::check_invert(p.masks.len() as u64, p.invert));
     let sliced = judged.and_then(|_| check_state(p.cells, state));
     let Answer { number, value } = told(sliced.map(|_| 0));
     let ours = entries::slice(p.machine(), state);
     let known = SliceAnswer {
         number,
         value,
-        slice: sliced.map_or(0, |_| second::slice(&p.masks, state)),
+        slice: sliced.map_or(0, |_| second::slice(&p.masks, p.invert, state)),
     };
     assert_eq!(ours, known, "the slice");
 }
@@ -129,6 +132,7 @@ fn window(p: &Parts) {
         cells,
         p.taps,
         p.limit as u64,
+        p.invert,
         &p.masks,
         stop.specified,
         stop.bits,
@@ -156,6 +160,7 @@ fn set(p: &Parts, choice: u8) {
         cells,
         p.taps,
         p.limit as u64,
+        p.invert,
         &p.masks,
         stop.specified,
         stop.bits,
@@ -185,6 +190,7 @@ fn cubes(p: &Parts, choice: u8) {
         cells,
         p.taps,
         p.limit as u64,
+        p.invert,
         &p.masks,
         p.depth as u64,
         set.specified,
@@ -221,6 +227,7 @@ fn expanding(p: &Parts, choice: u8) {
         cells,
         p.taps,
         p.limit as u64,
+        p.invert,
         &p.masks,
         stop.specified,
         stop.bits,
@@ -242,13 +249,16 @@ fn expanding(p: &Parts, choice: u8) {
     assert_eq!(checked, verdict(told(theirs)), "the check");
 }
 
+/// A flag beside the call: it has inverted chains of its own.
+const OWN_INVERT: u8 = 128;
+
 /// One input: which call, then its parts. The lists that are handed in must be as they were.
 pub fn run(data: &[u8], choice: u8) {
     let mut bytes = Bytes(data);
     let (call, word) = (bytes.byte(), bytes.word(8));
-    let parts = Parts::take(&mut bytes);
+    let parts = Parts::take(&mut bytes, call & OWN_INVERT != 0);
     let before = format!("{parts:?}");
-    match call % 6 {
+    match (call & !OWN_INVERT) % 6 {
         0 => window(&parts),
         1 => set(&parts, choice),
         2 => cubes(&parts, choice),

@@ -1,5 +1,5 @@
 // A call by numbers, taken from bytes: mostly lawful, with any part unlawful where a flag says so.
-// Document 01, "Register and chains" and "Refusal sheet"; document 02, R-3.
+// Document 01, "Register and chains" and "Refusal sheet"; document 02, R-3 and R-4.
 
 /// What a call hands in; each entry takes the parts that it has.
 #[derive(Debug)]
@@ -7,6 +7,7 @@ pub struct Parts {
     pub cells: usize,
     pub taps: u64,
     pub limit: usize,
+    pub invert: u64,
     pub masks: Vec<u64>,
     pub stop: (u64, u64),
     pub depth: usize,
@@ -99,6 +100,18 @@ fn limit(bytes: &mut Bytes, flags: u8) -> usize {
     }
 }
 
+/// Inverted chains of so many: none, or as a flag says mostly some of them, all, or any word.
+fn invert(bytes: &mut Bytes, own: bool, chains: usize) -> u64 {
+    if !own {
+        return 0;
+    }
+    match bytes.byte() {
+        0..=199 => bytes.word(width(chains)) & weights(chains),
+        200..=229 => weights(chains),
+        _ => bytes.word(8),
+    }
+}
+
 /// A test slice for so many chains.
 fn test_slice(bytes: &mut Bytes, chains: usize, any: bool) -> (u64, u64) {
     if any {
@@ -109,7 +122,8 @@ fn test_slice(bytes: &mut Bytes, chains: usize, any: bool) -> (u64, u64) {
 }
 
 impl Parts {
-    pub fn take(bytes: &mut Bytes) -> Parts {
+    /// The parts, with inverted chains where `inverts` says so.
+    pub fn take(bytes: &mut Bytes, inverts: bool) -> Parts {
         let flags = bytes.byte();
         let cells = cells(bytes);
         let (held, last) = (weights(cells), 1 << cells.clamp(1, 64).saturating_sub(1));
@@ -124,6 +138,7 @@ impl Parts {
             _ => bytes.word(8),
         };
         let masks = (0..chains).map(|_| mask(bytes)).collect();
+        let invert = invert(bytes, inverts, chains);
         let stop = test_slice(bytes, chains, flags & ANY_STOP != 0);
         let depth = bytes.number(256);
         let slices = bytes.number(2048);
@@ -137,6 +152,7 @@ impl Parts {
             cells,
             taps,
             limit,
+            invert,
             masks,
             stop,
             depth,

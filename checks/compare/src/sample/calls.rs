@@ -1,4 +1,4 @@
-// Windows, sets, cubes and lists: the second program's answers, with document 01's limit of windows and with others.
+// Windows, sets, cubes, lists and slices: the second program's answers, with document 01's settings, with other limits of windows, and with inverted chains.
 
 use super::table::{cause, cubes_outcome, list, outcome, slice, Table};
 use crate::call::{Call, DEFAULT_LIMIT};
@@ -6,51 +6,73 @@ use crate::inputs::{damage_lightly, lawful, thin};
 use crate::random::Random;
 use crate::runs::alone;
 
-/// The settings and the masks. Where no limit is given they are document 01's.
+/// The settings and the masks. Where no limit and no inverted chain is given they are document 01's.
 fn settings(call: &Call) -> String {
-    let (cells, taps, limit) = (call.cells, call.taps, call.limit);
-    let settings = match limit {
-        DEFAULT_LIMIT => format!("base {cells} {taps}"),
-        _ => format!("record {{ cells = {cells}; taps = {taps}; limit = {limit} }}"),
+    let (cells, taps, limit, invert) = (call.cells, call.taps, call.limit, call.invert);
+    let settings = match (limit, invert) {
+        (DEFAULT_LIMIT, 0) => format!("base {cells} {taps}"),
+        _ => format!(
+            "record {{ cells = {cells}; taps = {taps}; limit = {limit}; invert = {invert} }}"
+        ),
     };
     format!("({settings}) {}", list(&call.masks))
 }
 
-/// Which limits the calls of a table have.
+/// Which settings the calls of a table have besides their register.
 #[derive(Clone, Copy, PartialEq)]
-pub enum Limits {
-    /// Document 01's 256, which no text names.
-    Default,
-    /// Small ones, and now and then 0, 256 or 257; each text names its own.
-    Any,
+pub enum Given {
+    /// Document 01's 256 and no inverted chain, which no text names.
+    Neither,
+    /// Small limits, and now and then 0, 256 or 257; each text names its own.
+    Limits,
+    /// Any inverted chains, now and then one that is none of the chains, and every second time a small limit; each text names its own.
+    Inverts,
 }
 
-impl Limits {
-    pub fn one(self, random: &mut Random) -> usize {
+impl Given {
+    /// A limit.
+    fn limit(self, random: &mut Random) -> usize {
         match self {
-            Limits::Default => DEFAULT_LIMIT,
-            Limits::Any => match random.below(12) {
+            Given::Neither => DEFAULT_LIMIT,
+            Given::Limits => match random.below(12) {
                 0 => 0,
                 1 => 256,
                 2 => 257,
                 _ => random.between(1, 4),
             },
+            Given::Inverts => [DEFAULT_LIMIT, random.between(1, 4)][random.between(0, 1)],
         }
+    }
+
+    /// Inverted chains of so many.
+    fn invert(self, random: &mut Random, chains: usize) -> u64 {
+        match (self, random.below(12)) {
+            (Given::Inverts, 0) => random.bits(chains) | 1 << chains,
+            (Given::Inverts, _) => random.bits(chains),
+            _ => 0,
+        }
+    }
+
+    /// The call with such settings.
+    pub fn set(self, random: &mut Random, call: &mut Call) {
+        call.limit = self.limit(random);
+        call.invert = self.invert(random, call.masks.len());
     }
 
     /// The name of a table of a kind.
     pub fn name(self, kind: &str) -> String {
         match self {
-            Limits::Default => kind.into(),
-            Limits::Any => format!("limited-{kind}"),
+            Given::Neither => kind.into(),
+            Given::Limits => format!("limited-{kind}"),
+            Given::Inverts => format!("inverted-{kind}"),
         }
     }
 }
 
 /// A small call, whole or damaged.
-fn small(random: &mut Random, limits: Limits) -> Call {
+fn small(random: &mut Random, given: Given) -> Call {
     let mut call = lawful(random, 5, 3, 6);
-    call.limit = limits.one(random);
+    given.set(random, &mut call);
     if random.one_in(2) {
         thin(random, &mut call);
     }
@@ -60,11 +82,11 @@ fn small(random: &mut Random, limits: Limits) -> Call {
     call
 }
 
-pub fn windows(random: &mut Random, limits: Limits, count: usize) -> Table {
+pub fn windows(random: &mut Random, given: Given, count: usize) -> Table {
     let rows = (0..count).map(|_| {
-        let mut call = small(random, limits);
+        let mut call = small(random, given);
         // of windows above the limit, most by one slice
-        if limits == Limits::Any && !random.one_in(8) {
+        if given != Given::Neither && !random.one_in(8) {
             let most = random.between(1, call.limit + 1);
             call.specified.truncate(most);
             call.bits.truncate(most);
@@ -84,15 +106,31 @@ pub fn windows(random: &mut Random, limits: Limits, count: usize) -> Table {
         )
     });
     Table {
-        name: limits.name("windows"),
+        name: given.name("windows"),
         kind: "Seed",
         rows: rows.collect(),
     }
 }
 
-pub fn sets(random: &mut Random, limits: Limits, count: usize) -> Table {
+/// Slices of states, which no cause refuses.
+pub fn slices(random: &mut Random, count: usize) -> Table {
     let rows = (0..count).map(|_| {
-        let call = small(random, limits);
+        let mut call = lawful(random, 6, 5, 1);
+        call.invert = random.bits(call.masks.len());
+        let state = random.bits(call.cells);
+        let told = call.slice_of(state).to_string();
+        (format!("machine {} .slice {state}", settings(&call)), told)
+    });
+    Table {
+        name: "slices".into(),
+        kind: "ℕ",
+        rows: rows.collect(),
+    }
+}
+
+pub fn sets(random: &mut Random, given: Given, count: usize) -> Table {
+    let rows = (0..count).map(|_| {
+        let call = small(random, given);
         let lent = vec![77; random.between(0, 4)];
         let mut out = lent.clone();
         let answer = call.encode_set(&mut out);
@@ -108,15 +146,15 @@ pub fn sets(random: &mut Random, limits: Limits, count: usize) -> Table {
         )
     });
     Table {
-        name: limits.name("sets"),
+        name: given.name("sets"),
         kind: "Outcome",
         rows: rows.collect(),
     }
 }
 
-pub fn cubes(random: &mut Random, limits: Limits, count: usize) -> Table {
+pub fn cubes(random: &mut Random, given: Given, count: usize) -> Table {
     let rows = (0..count).map(|_| {
-        let mut call = small(random, limits);
+        let mut call = small(random, given);
         if random.one_in(8) {
             call.depth = random.between(0, 8);
         }
@@ -135,7 +173,7 @@ pub fn cubes(random: &mut Random, limits: Limits, count: usize) -> Table {
         )
     });
     Table {
-        name: limits.name("cubes"),
+        name: given.name("cubes"),
         kind: "CubesOutcome",
         rows: rows.collect(),
     }
@@ -159,9 +197,9 @@ fn run_in(random: &mut Random, call: &mut Call) {
     }
 }
 
-pub fn lists(random: &mut Random, limits: Limits, count: usize) -> Table {
+pub fn lists(random: &mut Random, given: Given, count: usize) -> Table {
     let rows = (0..count).map(|_| {
-        let mut call = small(random, limits);
+        let mut call = small(random, given);
         match random.below(4) {
             0 => call.slices = random.between(1, 12),
             1 | 2 => run_in(random, &mut call),
@@ -180,7 +218,7 @@ pub fn lists(random: &mut Random, limits: Limits, count: usize) -> Table {
         )
     });
     Table {
-        name: limits.name("lists"),
+        name: given.name("lists"),
         kind: "Outcome",
         rows: rows.collect(),
     }

@@ -1,29 +1,32 @@
 // Whole and damaged texts: what the second program prints.
 
-use super::calls::Limits;
+use super::calls::Given;
 use super::table::Table;
-use crate::call::Call;
+use crate::call::{Call, DEFAULT_LIMIT};
 use crate::inputs::{lawful, thin};
 use crate::random::Random;
 
 /// The lines before depth or stop.
-fn head(call: &Call, limits: Limits) -> Vec<String> {
+fn head(call: &Call, given: Given) -> Vec<String> {
     let mut lines = vec![
         format!("cells={}", call.cells),
         format!("taps={:x}", call.taps),
         format!("chains={}", call.masks.len()),
     ];
     lines.extend(call.masks.iter().map(|mask| format!("chain={mask:x}")));
-    if limits == Limits::Any {
+    if given == Given::Inverts {
+        lines.push(format!("invert={:x}", call.invert));
+    }
+    if given == Given::Limits || call.limit != DEFAULT_LIMIT {
         lines.push(format!("window={}", call.limit));
     }
     lines
 }
 
 /// The lines of a sheet.
-fn sheet(random: &mut Random, call: &Call, limits: Limits) -> Vec<String> {
+fn sheet(random: &mut Random, call: &Call, given: Given) -> Vec<String> {
     let chains = call.masks.len();
-    let mut lines = head(call, limits);
+    let mut lines = head(call, given);
     let depth = if random.one_in(8) {
         random.between(0, 300)
     } else {
@@ -40,8 +43,8 @@ fn sheet(random: &mut Random, call: &Call, limits: Limits) -> Vec<String> {
 }
 
 /// The lines of a seed list.
-fn seed_list(random: &mut Random, call: &Call, limits: Limits) -> Vec<String> {
-    let mut lines = head(call, limits);
+fn seed_list(random: &mut Random, call: &Call, given: Given) -> Vec<String> {
+    let mut lines = head(call, given);
     let (specified, bits) = call.stop;
     lines.push(format!(
         "stop={}",
@@ -81,19 +84,19 @@ fn quoted(text: &str) -> String {
     format!("bytes \"{}\"", text.replace('\n', "\\n"))
 }
 
-pub fn texts(random: &mut Random, limits: Limits, count: usize) -> Table {
+pub fn texts(random: &mut Random, given: Given, count: usize) -> Table {
     let rows = (0..count).map(|place| {
         let mut call = lawful(random, 5, 3, 6);
-        call.limit = limits.one(random);
+        given.set(random, &mut call);
         if random.one_in(2) {
             thin(random, &mut call);
         }
         let (word, lines) = if place % 2 == 0 {
-            ("encodeText", sheet(random, &call, limits))
+            ("encodeText", sheet(random, &call, given))
         } else if place % 4 == 1 {
-            ("expandText", seed_list(random, &call, limits))
+            ("expandText", seed_list(random, &call, given))
         } else {
-            let input = sheet(random, &call, limits).join("\n") + "\n";
+            let input = sheet(random, &call, given).join("\n") + "\n";
             let printed = second::encode_text(input.as_bytes());
             let printed = String::from_utf8(printed).expect("printed text is ASCII");
             ("expandText", printed.lines().map(String::from).collect())
@@ -107,7 +110,7 @@ pub fn texts(random: &mut Random, limits: Limits, count: usize) -> Table {
         (format!("{word} ({})", quoted(&input)), quoted(&printed))
     });
     Table {
-        name: limits.name("texts"),
+        name: given.name("texts"),
         kind: "List ℕ",
         rows: rows.collect(),
     }

@@ -1,4 +1,4 @@
-// Random calls with up to three damages, at limits within the range and outside: checks, windows, sets, cubes and lists by both programs.
+// Random calls with up to four damages, at limits within the range and outside and under any mask of inverted chains: checks, windows, sets, cubes and lists by both programs.
 
 use super::outside::{unjudged, OUTSIDE};
 use crate::call::Call;
@@ -23,7 +23,7 @@ fn any_limit(random: &mut Random, slices: usize) -> usize {
     }
 }
 
-/// Notes the refusals that the second program gives in the calls for a window, a set, cubes and a list, and whether the limit is outside.
+/// Notes the refusals that the second program gives in the calls for a window, a set, cubes and a list, whether the limit is outside, and where 2 comes of the inverted chains alone.
 fn note(call: &Call, seen: &mut Seen) {
     let told: [Result<(), Refused>; 4] = [
         call.window_seed().map(|_| ()),
@@ -36,6 +36,9 @@ fn note(call: &Call, seen: &mut Seen) {
     for (name, told) in ["window", "set", "cubes", "list"].iter().zip(told) {
         if let Err(refused) = told {
             seen.note(&format!("{name}, {}, {place}", refused.number));
+            if refused.number == 2 && second::check_chains(call.cells as u64, &call.masks).is_ok() {
+                seen.note(&format!("{name}, a mask beyond, {place}"));
+            }
         }
     }
 }
@@ -69,6 +72,10 @@ fn require(met: &Met) -> Result<(), String> {
             for place in ["within", "outside"] {
                 met.sets.require(&[&format!("{name}, {number}, {place}")])?;
             }
+        }
+        for place in ["within", "outside"] {
+            met.sets
+                .require(&[&format!("{name}, a mask beyond, {place}")])?;
         }
     }
     met.sets.require(&["window, 7, within", "set, 8, within"])?;

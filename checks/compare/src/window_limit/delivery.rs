@@ -26,10 +26,9 @@ fn into_stop(random: &mut Random, call: &mut Call, steps: usize) -> Vec<u64> {
     states.reverse();
     let percent = [40, 100, 100][random.between(0, 2)];
     let specified = random.sparse(call.masks.len(), percent).max(1);
-    call.stop = (specified, second::slice(&call.masks, state) & specified);
+    call.stop = (specified, call.slice_of(state) & specified);
     let (positions, values) = call.stop;
-    let quiet =
-        |state: &&u64| !second::shows(positions, values, second::slice(&call.masks, **state));
+    let quiet = |state: &&u64| !second::shows(positions, values, call.slice_of(**state));
     let length = states[1..].iter().take_while(quiet).count();
     states.truncate(1 + length);
     states
@@ -69,8 +68,7 @@ impl Run {
             for _ in 0..steps.clamp(1, count - call.specified.len()) {
                 let specified = random.sparse(call.masks.len(), percent);
                 call.specified.push(specified);
-                call.bits
-                    .push(second::slice(&call.masks, state) & specified);
+                call.bits.push(call.slice_of(state) & specified);
                 state = second::step(call.cells as u64, call.taps, state);
             }
             most = random.between(1, self.most().max(1));
@@ -120,7 +118,7 @@ fn windows(random: &mut Random, call: &Call) -> Windows {
     let mut state = random.bits(call.cells);
     let mut window = Vec::new();
     for _ in 0..STEPS {
-        let slice = second::slice(&call.masks, state);
+        let slice = call.slice_of(state);
         if slice != stop {
             window.push(slice);
         } else {

@@ -25,7 +25,7 @@ fn note(call: &Call, known: &Known, met: &mut Met) -> Result<(), String> {
 }
 
 /// One call as a window, as a set and as cubes, with brute force's answers; which of these are lawful depends on the call.
-fn compare(random: &mut Random, mut call: Call, met: &mut Met) -> Outcome {
+pub fn compare(random: &mut Random, mut call: Call, met: &mut Met) -> Outcome {
     let told = call.brute_window().ok_or("too many cells")?;
     let mut count = windows::compare_known(&call, told, &mut met.sets)?;
     if holding(Kind::Set, &call).is_empty() {

@@ -6,8 +6,8 @@ use crate::known::{self, Known};
 use crate::text::{Program, Text};
 use second::Refused;
 
-/// The line of the sheet and of the list that a window line stands before.
-const PLACE: usize = 6;
+/// The line of the sheet and of the list that a window line or an invert line stands before.
+pub const PLACE: usize = 6;
 
 /// What stands in the place of a window line and is out of form.
 const OUT_OF_FORM: [&[u8]; 62] = [
@@ -81,7 +81,7 @@ const OUT_OF_RANGE: [&str; 12] = [
 ];
 
 /// Document 01's sheet or list.
-fn whole(program: Program) -> &'static str {
+pub fn whole(program: Program) -> &'static str {
     match program {
         Program::Encode => SHEET,
         Program::Expand => LIST,
@@ -198,8 +198,8 @@ fn ended(program: Program) -> Vec<Known> {
         .to_vec()
 }
 
-/// The refusal of a text that gets a window line: of a line behind it, one line later.
-fn later(answer: Result<(), Refused>) -> Result<(), Refused> {
+/// The refusal of a text that gets a line in this place: of a line behind it, one line later.
+pub fn later(answer: Result<(), Refused>) -> Result<(), Refused> {
     answer.map_err(|mut refused| {
         if matches!(refused.number, 1 | 2 | 3 | 5 | 13) && refused.value >= PLACE as u64 {
             refused.value += 1;

@@ -33,7 +33,7 @@ fn untouched<A>(room: usize, call: impl FnOnce(&mut [u64]) -> A) -> Result<A, St
 }
 
 /// The second program's calls, all refused by one number with 0.
-fn all_told(call: &Call, number: u64) -> Outcome {
+pub fn all_told(call: &Call, number: u64) -> Outcome {
     let told = [
         call.window_seed().map(|_| 0),
         call.encode_set(&mut []),
@@ -45,7 +45,7 @@ fn all_told(call: &Call, number: u64) -> Outcome {
 }
 
 /// The eight calls that judge the limit, all refused by one number with 0, with so many entries lent.
-fn all_refused(call: &Call, room: usize, number: u64) -> Outcome {
+pub fn all_refused(call: &Call, room: usize, number: u64) -> Outcome {
     let checks = [
         call.check_window(),
         call.check_set(),

@@ -27,8 +27,8 @@ fn before<'a>(text: &'a [u8], key: &[u8]) -> &'a [u8] {
     &text[..front]
 }
 
-/// What must hold of the list of an accepted sheet: it repeats all lines before depth, the window line too, and expands back.
-fn expands_back(sheet: &[u8], list: &[u8]) -> Result<(), String> {
+/// What must hold of the list of an accepted sheet: it repeats all lines before depth, the invert line and the window line too, and expands back.
+pub fn expands_back(sheet: &[u8], list: &[u8]) -> Result<(), String> {
     let (head, repeated) = (before(sheet, b"depth="), before(list, b"stop="));
     same("the lines before depth", head, repeated)?;
     let slices = second::expand_text(list);
