@@ -2,6 +2,9 @@
 
 use seeds::LONGEST_WINDOW;
 
+/// No set of the benchmark has inverted chains.
+pub const NONE_INVERTED: u64 = 0;
+
 /// What is asked of the slices.
 #[derive(Clone, Copy, Debug, PartialEq)]
 pub enum Ask {

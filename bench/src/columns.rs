@@ -1,7 +1,7 @@
 // The columns of the tables: what is measured beside the library.
 
 use crate::answer::Answer;
-use crate::case::{Ask, Case};
+use crate::case::{Ask, Case, NONE_INVERTED};
 use crate::{enumeration, fast, library, marked, solver};
 
 #[derive(Clone, Copy, Debug, PartialEq)]
@@ -125,6 +125,7 @@ fn second_window(case: &Case) -> Answer {
         case.cells as u64,
         case.taps,
         case.window_limit as u64,
+        NONE_INVERTED,
         &case.masks,
         case.stop.0,
         case.stop.1,
@@ -143,6 +144,7 @@ fn second_set(case: &Case) -> Answer {
         case.cells as u64,
         case.taps,
         case.window_limit as u64,
+        NONE_INVERTED,
         &case.masks,
         case.stop.0,
         case.stop.1,

@@ -7,7 +7,7 @@
 // - 004's last seed needs no stop; in 01, and here, every seed ends in it. A seed has at most as many slices as the window limit of the case: 256, as in 01, in all but one row of `bench quick`.
 // - The seed is any solution; here the lowest.
 
-use crate::case::Case;
+use crate::case::{Case, NONE_INVERTED};
 use crate::space::{rows, Space};
 
 /// The place of a slice that the procedure cannot encode, though it stands first in its window.
@@ -78,6 +78,7 @@ fn covers(case: &Case, start: usize, length: usize, seed: u64) -> bool {
         case.cells as u64,
         case.taps,
         case.window_limit as u64,
+        NONE_INVERTED,
         &case.masks,
         case.stop.0,
         case.stop.1,

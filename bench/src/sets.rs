@@ -1,6 +1,6 @@
 // The sets that are measured: 64 cells, random masks and slices, and a set of full slices that a run of the register delivers.
 
-use crate::case::{Ask, Case};
+use crate::case::{Ask, Case, NONE_INVERTED};
 use crate::random::Random;
 use seeds::LONGEST_WINDOW;
 
@@ -105,7 +105,7 @@ pub fn full_slices() -> Case {
     let mut state = random.word();
     let mut bits = Vec::new();
     for _ in 0..300 {
-        bits.push(second::slice(&masks, state));
+        bits.push(second::slice(&masks, NONE_INVERTED, state));
         state = second::step(64, TAPS, state);
     }
     let mut case = Case {
@@ -135,6 +135,7 @@ fn cut_by(case: &Case) -> bool {
             64,
             case.taps,
             case.window_limit as u64,
+            NONE_INVERTED,
             &case.masks,
             positions,
             stop,
