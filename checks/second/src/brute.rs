@@ -1,7 +1,8 @@
 // Holds the brute force: every state of a small register and every cutting of a set.
 // Follows document 01, "Covering and cutting", word by word, with document 02, R-3 (the
-// window limit stands where 256 stood) and R-4 (each slice is formed as it comes out, with
-// the inverted chains). Limit and inversion are tested here once more, by themselves.
+// window limit stands where 256 stood), R-4 (each slice is formed as it comes out, with
+// the inverted chains) and R-5 (a window that ends the set need not close with its stop).
+// Limit and inversion are tested here once more, by themselves.
 
 use crate::check::{check_chains, check_register, check_slices, check_stop};
 use crate::register::{agrees, low_bits, shows, step};
@@ -21,18 +22,28 @@ struct Setting<'a> {
     stop_bits: u64,
 }
 
-/// `table[start][m-1]`: the lowest state that covers the window of m slices from `start`,
-/// for m up to the number of slices or the limit.
-type Table = Vec<Vec<Option<u64>>>;
+/// The lowest covering states of a set's windows.
+struct Table {
+    /// `closing[start][m-1]`: the lowest state that covers the window of m slices from
+    /// `start` and closes it with the stop, for m up to the number of slices or the limit.
+    closing: Vec<Vec<Option<u64>>>,
+    /// `ending[start]`: the lowest state that covers the window from `start` to the end of
+    /// the set, whatever comes after it. None, too, if the window is longer than the limit.
+    ending: Vec<Option<u64>>,
+}
 
 /// What the brute force finds of a set.
 #[derive(Clone, Debug, PartialEq, Eq)]
 pub struct BruteSet {
     /// The fewest windows, within the limit, of any cutting; None if the set can't be cut.
+    /// The window that ends the set need not close with the stop.
     pub fewest: Option<usize>,
-    /// The slices in the longest start that can be cut.
+    /// The slices in the longest start that can be cut into windows that all close with the
+    /// stop. These starts are the ones that refusal 8 counts. Of a set that can be cut this
+    /// may be the whole or less.
     pub longest_start: usize,
-    /// The seeds of the longest windows, as far as such windows get.
+    /// The seeds of the longest windows, as far as such windows get. The last one reaches
+    /// the end of the set if the set can be cut.
     pub seeds: Vec<u64>,
     /// The slices in the windows of these seeds.
     pub reached: usize,
@@ -41,13 +52,16 @@ pub struct BruteSet {
 impl BruteSet {
     /// True if the longest windows keep the promises for a set of so many slices: they end
     /// with the set exactly when it can be cut, and are then the fewest; otherwise they end
-    /// with the longest start that can be cut.
+    /// with the longest start that refusal 8 counts. In a set that can be cut that start
+    /// plays no part, but that it is one of the set's.
     pub fn rule_is_best(&self, slices: usize) -> bool {
-        let fewest = match self.fewest {
-            None => self.reached < slices,
-            Some(windows) => self.reached == slices && self.seeds.len() == windows,
-        };
-        fewest && self.reached == self.longest_start
+        match self.fewest {
+            None => self.reached < slices && self.reached == self.longest_start,
+            Some(windows) => {
+                let whole = self.reached == slices && self.longest_start <= slices;
+                whole && self.seeds.len() == windows
+            }
+        }
     }
 }
 
@@ -88,8 +102,9 @@ impl Setting<'_> {
         beyond.all(|place| (self.invert >> place) & 1 == 0)
     }
 
-    /// True if the state covers the window. A limit that isn't lawful allows no window.
-    fn covers(&self, spec: &[u64], bits: &[u64], state: u64) -> bool {
+    /// True if the state covers the window and, if `closes`, the stop comes straight after
+    /// it. A limit that isn't lawful allows no window.
+    fn covers(&self, spec: &[u64], bits: &[u64], state: u64, closes: bool) -> bool {
         let length = spec.len();
         if length == 0 || bits.len() != length {
             return false;
@@ -108,20 +123,26 @@ impl Setting<'_> {
             }
             now = self.step(now);
         }
-        self.shows(self.slice(now))
+        !closes || self.shows(self.slice(now))
     }
 
-    /// The first of the slices 0 to `limit` that shows the stop. A state covers no window
-    /// of another length.
-    fn first_stop(&self, state: u64) -> Option<usize> {
+    /// The slices of a state before its first stop, at most `limit` of them, and whether the
+    /// next one shows the stop. A state covers no window longer than these slices. With a
+    /// stop next, the state closes windows of just their number; else it closes none.
+    fn run(&self, state: u64) -> (Vec<u64>, bool) {
+        let mut slices = Vec::new();
         let mut now = state;
-        for t in 0..=self.limit as usize {
-            if self.shows(self.slice(now)) {
-                return Some(t);
+        loop {
+            let v = self.slice(now);
+            if self.shows(v) {
+                return (slices, true);
             }
+            if slices.len() as u64 == self.limit {
+                return (slices, false);
+            }
+            slices.push(v);
             now = self.step(now);
         }
-        None
     }
 
     /// The causes 1 to 5, for at most `most` slices.
@@ -141,18 +162,28 @@ impl Setting<'_> {
 
     /// The lowest covering state of every window of the set.
     fn all_windows(&self, spec: &[u64], bits: &[u64]) -> Table {
-        let mut table = vec![vec![None; spec.len().min(self.limit as usize)]; spec.len()];
+        let all = spec.len();
+        let mut table = Table {
+            closing: vec![vec![None; all.min(self.limit as usize)]; all],
+            ending: vec![None; all],
+        };
         for state in 0..1u64 << self.cells {
-            let Some(m) = self.first_stop(state) else {
-                continue;
-            };
-            if m == 0 || m > spec.len() {
-                continue;
+            let (slices, stops) = self.run(state);
+            let m = slices.len();
+            if stops && (1..=all).contains(&m) {
+                for start in 0..=all - m {
+                    let window = start..start + m;
+                    let lowest = &mut table.closing[start][m - 1];
+                    if lowest.is_none() && all_agree(&spec[window.clone()], &bits[window], &slices)
+                    {
+                        *lowest = Some(state);
+                    }
+                }
             }
-            for start in 0..=spec.len() - m {
-                let (places, values) = (&spec[start..start + m], &bits[start..start + m]);
-                if table[start][m - 1].is_none() && self.covers(places, values, state) {
-                    table[start][m - 1] = Some(state);
+            for start in all - m.min(all)..all {
+                let lowest = &mut table.ending[start];
+                if lowest.is_none() && all_agree(&spec[start..], &bits[start..], &slices) {
+                    *lowest = Some(state);
                 }
             }
         }
@@ -160,19 +191,27 @@ impl Setting<'_> {
     }
 }
 
-/// For each start of the set, by its length, the fewest windows over all its cuttings. The
-/// last window of a cutting is of 1 to `limit` slices, and what is before it is a cutting
-/// of a shorter start; all of these are tried.
-fn fewest_windows(table: &Table, limit: usize) -> Vec<Option<usize>> {
+/// True if the first of the slices agree with the window, one with each of its slices.
+fn all_agree(spec: &[u64], bits: &[u64], slices: &[u64]) -> bool {
+    let mut window = spec.iter().zip(bits).zip(slices);
+    window.all(|((&places, &values), &v)| agrees(places, values, v))
+}
+
+/// The lower of the two numbers of windows that are there.
+fn fewer(one: Option<usize>, other: Option<usize>) -> Option<usize> {
+    one.into_iter().chain(other).min()
+}
+
+/// For each start of the set, by its length, the fewest windows over all its cuttings into
+/// windows that all close with the stop. The last window of a cutting is of 1 to `limit`
+/// slices, and what is before it is a cutting of a shorter start; all of these are tried.
+fn fewest_closing(table: &Table, limit: usize) -> Vec<Option<usize>> {
     let mut fewest: Vec<Option<usize>> = vec![Some(0)];
-    for end in 1..=table.len() {
-        let mut best: Option<usize> = None;
+    for end in 1..=table.closing.len() {
+        let mut best = None;
         for m in 1..=end.min(limit) {
-            let (Some(before), Some(_)) = (fewest[end - m], table[end - m][m - 1]) else {
-                continue;
-            };
-            if best.is_none_or(|windows| before + 1 < windows) {
-                best = Some(before + 1);
+            if table.closing[end - m][m - 1].is_some() {
+                best = fewer(best, fewest[end - m].map(|before| before + 1));
             }
         }
         fewest.push(best);
@@ -180,23 +219,41 @@ fn fewest_windows(table: &Table, limit: usize) -> Vec<Option<usize>> {
     fewest
 }
 
-/// The seeds of the longest windows from the first slice on, and the slices they reach.
+/// The fewest windows over all cuttings of the set: the last window ends the set, and what is
+/// before it is a start cut into windows that all close with the stop.
+fn fewest_of_set(table: &Table, closing: &[Option<usize>]) -> Option<usize> {
+    let mut best = None;
+    for (start, last) in table.ending.iter().enumerate() {
+        if last.is_some() {
+            best = fewer(best, closing[start].map(|before| before + 1));
+        }
+    }
+    best
+}
+
+/// The seeds of the longest windows from the first slice on, and the slices they reach. No
+/// window is longer than the one that ends the set.
 fn longest_windows(table: &Table) -> (Vec<u64>, usize) {
     let mut seeds = Vec::new();
     let mut start = 0;
-    while start < table.len() {
-        let Some(place) = table[start].iter().rposition(Option::is_some) else {
+    while start < table.ending.len() {
+        if let Some(seed) = table.ending[start] {
+            seeds.push(seed);
+            return (seeds, table.ending.len());
+        }
+        let Some(place) = table.closing[start].iter().rposition(Option::is_some) else {
             break;
         };
-        seeds.extend(table[start][place]);
+        seeds.extend(table.closing[start][place]);
         start += place + 1;
     }
     (seeds, start)
 }
 
-/// True if the state covers the window, which has 1 to `limit` slices. False for a limit
-/// out of its range: no window is within it. A bit of `invert` beyond the chains names no
-/// chain and changes no slice.
+/// True if the state covers the window, which has 1 to `limit` slices. With `closes` the
+/// window must close with its stop; without, as for the window that ends a set, it need not.
+/// False for a limit out of its range: no window is within it. A bit of `invert` beyond the
+/// chains names no chain and changes no slice.
 #[allow(clippy::too_many_arguments)]
 pub fn covers(
     cells: u64,
@@ -209,6 +266,7 @@ pub fn covers(
     spec: &[u64],
     bits: &[u64],
     state: u64,
+    closes: bool,
 ) -> bool {
     Setting {
         cells,
@@ -219,12 +277,12 @@ pub fn covers(
         stop_spec,
         stop_bits,
     }
-    .covers(spec, bits, state)
+    .covers(spec, bits, state, closes)
 }
 
-/// The seed of a window, found by trying all states. Causes 1, 2 (the chains, or
-/// `invert`), 3 (the limit, or a length not 1 to the limit), 4, 5, 7. None if causes 1 to 5
-/// don't hold and the register has more than 16 cells.
+/// The seed of a window given singly, which closes with its stop, found by trying all states.
+/// Causes 1, 2 (the chains, or `invert`), 3 (the limit, or a length not 1 to the limit), 4, 5,
+/// 7. None if causes 1 to 5 don't hold and the register has more than 16 cells.
 #[allow(clippy::too_many_arguments)]
 pub fn brute_window(
     cells: u64,
@@ -253,7 +311,7 @@ pub fn brute_window(
         return None;
     }
     for state in 0..1u64 << cells {
-        if setting.covers(spec, bits, state) {
+        if setting.covers(spec, bits, state, true) {
             return Some(Ok(state));
         }
     }
@@ -291,11 +349,11 @@ pub fn brute_set(
         return None;
     }
     let table = setting.all_windows(spec, bits);
-    let fewest = fewest_windows(&table, limit as usize);
-    let longest_start = fewest.iter().rposition(Option::is_some).unwrap_or(0);
+    let closing = fewest_closing(&table, limit as usize);
+    let longest_start = closing.iter().rposition(Option::is_some).unwrap_or(0);
     let (seeds, reached) = longest_windows(&table);
     Some(Ok(BruteSet {
-        fewest: fewest[spec.len()],
+        fewest: fewest_of_set(&table, &closing),
         longest_start,
         seeds,
         reached,

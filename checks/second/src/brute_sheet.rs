@@ -1,6 +1,7 @@
 // Holds the encoding program's text as the brute force finds it.
 // Follows document 01, "Sheet and seed list", and document 02, R-3 ("fewest" is meant among
-// windows up to the window limit) and R-4 (slices come out with the inverted chains).
+// windows up to the window limit), R-4 (slices come out with the inverted chains) and R-5
+// (the window that ends the set need not close with its stop).
 
 use crate::brute::{brute_set, covers, BruteSet};
 use crate::lines::refusal_text;
@@ -16,7 +17,7 @@ pub enum BruteText {
     /// The register has more than 16 cells.
     TooManyCells,
     /// The longest windows up to the limit make no cutting of fewest seeds, or don't reach
-    /// the longest start that can be cut, or aren't what their seeds deliver.
+    /// the longest start that refusal 8 counts, or aren't what their seeds deliver.
     RuleNotBest,
 }
 
@@ -62,21 +63,27 @@ fn brute_sheet(sheet: &Sheet, stop: (u64, u64)) -> Option<Result<BruteSet, Refus
 
 /// The slices that the seeds deliver, each in a window of 1 to `limit` slices that it covers
 /// and that begins where the last one ended. None if a seed covers no such window. A state
-/// covers windows of one length only, so there is nothing to choose.
+/// closes windows of one length only; the last seed has the window that ends the set if it
+/// covers that one. So there is nothing to choose.
 fn delivered(sheet: &Sheet, stop: (u64, u64), seeds: &[u64]) -> Option<usize> {
     let head = &sheet.head;
     let (cells, taps, limit, invert) = (head.cells, head.taps, head.limit(), head.invert());
+    let all = sheet.spec.len();
+    let covered = |start: usize, end: usize, seed: u64, closes: bool| {
+        let (spec, bits) = (&sheet.spec[start..end], &sheet.bits[start..end]);
+        let masks = &head.masks;
+        covers(
+            cells, taps, limit, invert, masks, stop.0, stop.1, spec, bits, seed, closes,
+        )
+    };
     let mut start = 0;
-    for &seed in seeds {
-        let ends = start + 1..=sheet.spec.len();
-        let end = ends.take(limit as usize).find(|&end| {
-            let (spec, bits) = (&sheet.spec[start..end], &sheet.bits[start..end]);
-            let masks = &head.masks;
-            covers(
-                cells, taps, limit, invert, masks, stop.0, stop.1, spec, bits, seed,
-            )
-        });
-        start = end?;
+    for (place, &seed) in seeds.iter().enumerate() {
+        let last = place + 1 == seeds.len();
+        if last && covered(start, all, seed, false) {
+            return Some(all);
+        }
+        let mut ends = (start + 1..=all).take(limit as usize);
+        start = ends.find(|&end| covered(start, end, seed, true))?;
     }
     Some(start)
 }

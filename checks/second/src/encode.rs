@@ -1,6 +1,7 @@
 // Holds the cutting of a set into windows and the two calls that encode a set.
 // Follows document 01, "Covering and cutting" and "Refusal sheet", with document 02, R-3
-// (windows are cut up to the window limit) and R-4 (chains may be inverted).
+// (windows are cut up to the window limit), R-4 (chains may be inverted) and R-5 (the window
+// that ends the set needs no stop after it).
 
 use crate::check::{
     check_chains, check_cubes, check_invert, check_limit, check_register, check_slice_count,
@@ -11,9 +12,11 @@ use crate::window::Machine;
 use crate::{refuse, Refused};
 
 /// The seeds of a set, each of the longest covered window from where the last one ended.
-/// Cause 8 with the slices cut so far: the end of a covered window, taken from a later
-/// slice on, is covered too and within the same limit, so no cutting gets farther than the
-/// longest windows do, after any number of windows.
+/// The window that ends the set need not close with the stop. Cause 8 with the slices cut so
+/// far, all in windows that close with the stop, since none of them ends the set. The end of
+/// a covered window, taken from a later slice on, is covered too, by the same closing rule
+/// and within the same limit, so no cutting gets farther than the longest windows do, after
+/// any number of windows.
 fn cut(machine: &Machine, spec: &[u64], bits: &[u64]) -> Result<Vec<u64>, Refused> {
     let mut seeds = Vec::new();
     let mut start = 0;

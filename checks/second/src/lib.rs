@@ -2,8 +2,8 @@
 // Follows document 01, "Refusal sheet", and document 02, R-3 and R-4.
 
 //! Self-stopping seeds for scan slices: a second program, made from document
-//! 004 (section III.A, figure 2), document 01 and document 02, without sight
-//! of the definitions.
+//! 004 (section III.A, figure 2), document 01 and document 02, without
+//! sight of the definitions.
 
 mod brute;
 mod brute_sheet;

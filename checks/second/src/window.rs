@@ -1,6 +1,7 @@
 // Holds the seed of a window and the longest covered window at a place of a set.
 // Follows document 01, "Covering and cutting", with document 02, R-3 (the window limit
-// stands where 256 stood) and R-4 (inverted chains).
+// stands where 256 stood), R-4 (inverted chains) and R-5 (a window that ends the set needs no
+// stop after it; a window given singly does).
 
 use crate::check::{
     check_chains, check_invert, check_limit, check_register, check_slices, check_stop,
@@ -95,6 +96,11 @@ impl Machine {
         planes
     }
 
+    /// The lowest state of the plane whose slices 0 to m-1 don't show the stop.
+    fn running(&self, plane: Plane, m: usize) -> Option<u64> {
+        Search::new(plane, &self.shown[..m])?.lowest()
+    }
+
     /// The lowest state of the plane whose slices 0 to m-1 don't show the stop and whose
     /// slice m does.
     fn stopping_at(&self, mut plane: Plane, m: usize) -> Option<u64> {
@@ -103,10 +109,11 @@ impl Machine {
                 return None;
             }
         }
-        Search::new(plane, &self.shown[..m])?.lowest()
+        self.running(plane, m)
     }
 
-    /// The lowest state that covers the window, whose length is within the limit.
+    /// The lowest state that covers the window, given singly, whose length is within the
+    /// limit. The window closes with its stop.
     pub fn seed(&self, spec: &[u64], bits: &[u64]) -> Option<u64> {
         let mut planes = self.agreeing(spec, bits);
         if planes.len() <= spec.len() {
@@ -116,12 +123,18 @@ impl Machine {
     }
 
     /// The longest covered window, within the limit, that the slices begin with, and its
-    /// seed. A length that isn't covered says nothing of a longer one, so all are tried,
-    /// the longest first.
+    /// seed. The slices go to the end of their set: the window of all of them ends the set
+    /// and need not close with the stop; any shorter one must. A length that isn't covered
+    /// says nothing of a longer one, so all are tried, the longest first.
     pub fn longest(&self, spec: &[u64], bits: &[u64]) -> Option<(usize, u64)> {
         let planes = self.agreeing(spec, bits);
         for (m, plane) in planes.into_iter().enumerate().skip(1).rev() {
-            if let Some(seed) = self.stopping_at(plane, m) {
+            let seed = if m == spec.len() {
+                self.running(plane, m)
+            } else {
+                self.stopping_at(plane, m)
+            };
+            if let Some(seed) = seed {
                 return Some((m, seed));
             }
         }
@@ -129,8 +142,9 @@ impl Machine {
     }
 }
 
-/// The seed of a window: the lowest covering state. Causes 1, 2 (the chains, or `invert`), 3
-/// (the limit, or a length not 1 to the limit), 4, 5, 7.
+/// The seed of a window given singly: the lowest covering state. The window closes with its
+/// stop. Causes 1, 2 (the chains, or `invert`), 3 (the limit, or a length not 1 to the limit),
+/// 4, 5, 7.
 #[allow(clippy::too_many_arguments)]
 pub fn window_seed(
     cells: u64,

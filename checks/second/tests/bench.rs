@@ -1,6 +1,6 @@
 // Holds the bench examples as tests of the library calls.
 // Follows document 01, "Bench examples", with the six slices of two chains as document 02,
-// R-1, has them.
+// R-1, has them, and with its R-5: the last seed goes without its stop.
 
 mod common;
 
@@ -101,8 +101,31 @@ fn state_7_shows_the_stop_early() {
 }
 
 #[test]
-fn set_of_r_that_cannot_be_cut() {
+fn set_of_r_without_a_stop_at_its_end() {
     let (spec, bits) = set(&["1x", "0x"]);
+    let (stop_spec, stop_bits) = one("01");
+    for space in 0..3 {
+        let mut out = vec![9; space];
+        let answer = encode_set(
+            3, 6, LIMIT, 0, &MASKS, stop_spec, stop_bits, &spec, &bits, &mut out,
+        );
+        let wanted = if space == 0 { refused(9, 1) } else { Ok(1) };
+        assert_eq!(answer, wanted);
+        assert_eq!(out, [1, 9][..space]);
+    }
+    let brute = brute_set(3, 6, LIMIT, 0, &MASKS, stop_spec, stop_bits, &spec, &bits);
+    let found = brute.unwrap().unwrap();
+    // With a stop after each window only the first slice can be cut.
+    assert_eq!(
+        (found.fewest, found.longest_start, found.reached),
+        (Some(1), 1, 2)
+    );
+}
+
+#[test]
+fn set_of_r_that_cannot_be_cut() {
+    // The last slice is the stop.
+    let (spec, bits) = set(&["1x", "01"]);
     let (stop_spec, stop_bits) = one("01");
     for space in 0..3 {
         let mut out = vec![9; space];
@@ -126,13 +149,13 @@ fn seeds_of_r_refused() {
     let mut out = [9; 4];
     for (seeds, number, value) in [
         (&[6][..], 11, 0),
-        (&[0], 12, 0),
+        (&[0, 3], 12, 0),
         (&[3, 6], 11, 1),
         (&[3, 3, 0, 6, 8], 12, 2),
         (&[3, 8, 0], 10, 1),
         (&[], 14, 0),
         (&[3], 14, 2),
-        (&[3, 3, 3], 14, 6),
+        (&[3, 3, 3], 14, 4),
     ] {
         let answer = expand(
             3, 6, LIMIT, 0, &MASKS, stop_spec, stop_bits, 4, seeds, &mut out,
@@ -140,6 +163,20 @@ fn seeds_of_r_refused() {
         assert_eq!(answer, refused(number, value), "{seeds:?}");
         assert_eq!(out, [9; 4]);
     }
+    // Document 01's seed 0, which is the last.
+    let answer = expand(
+        3,
+        6,
+        LIMIT,
+        0,
+        &MASKS,
+        stop_spec,
+        stop_bits,
+        4,
+        &[0],
+        &mut out,
+    );
+    assert_eq!((answer, out), (Ok(4), [0; 4]));
 }
 
 #[test]
@@ -224,13 +261,15 @@ fn windows_of_256_and_257_slices() {
     assert_eq!(exact(256), Ok(before));
     assert_eq!(exact(257), refused(3, 0));
     let seeds = core.set(LIMIT, &free(257), &free(257)).unwrap();
-    assert_eq!(seeds, [before, stopping_at(&core, 1)]);
-    assert_eq!(step(core.cells, core.taps, seeds[1]), 0xfff);
-    // Slice 256 may show the stop in expanding, slice 257 is too late.
+    assert_eq!(seeds, [before, 0]);
+    // Slice 256 may show the stop in expanding, slice 257 is too late where it is needed.
     let slices = core.expand(LIMIT, 256, &[before]).unwrap();
     assert_eq!(slices.len(), 256);
     let earlier = stopping_at(&core, 257);
-    assert_eq!(core.expand(LIMIT, 256, &[earlier]), refused(12, 0));
+    let slices = core.expand(LIMIT, 256, &[earlier]).unwrap();
+    assert_eq!(slices.len(), 256);
+    assert_eq!(core.expand(LIMIT, 257, &[earlier]), refused(12, 0));
+    assert_eq!(core.expand(LIMIT, 256, &[earlier, 0]), refused(12, 0));
 }
 
 #[test]
@@ -261,11 +300,15 @@ fn taps_in_cell_63_only() {
         let wanted = if m < 64 { Ok(last >> m) } else { refused(7, 0) };
         assert_eq!(answer, wanted, "{m}");
     }
-    let mut out = [9; 5];
-    let free = [0; 200];
-    let answer = encode_set(64, last, LIMIT, 0, &[last], 1, 1, &free, &free, &mut out);
-    assert_eq!(answer, Ok(4));
-    assert_eq!(out, [1, 1, 1, 1 << 52, 9]);
+    // The stop comes after 63 slices at the latest; state 0 needs none at the end.
+    for (count, seeds) in [(200, &[0][..]), (300, &[1, 0]), (400, &[1, 1, 1, 0])] {
+        let mut out = [9; 5];
+        let free = vec![0; count];
+        let answer = encode_set(64, last, LIMIT, 0, &[last], 1, 1, &free, &free, &mut out);
+        assert_eq!(answer, Ok(seeds.len()));
+        assert_eq!(out[..seeds.len()], *seeds);
+        assert!(out[seeds.len()..].iter().all(|&entry| entry == 9));
+    }
 }
 
 #[test]

@@ -163,7 +163,19 @@ fn no_input_panics() {
         let _ = (stop_slice(a, &spec, &bits), stop_trace(a, &spec, &bits));
         let _ = spare_pattern(a, &spec, &bits);
         let _ = window_seed(a, b, limit, invert, &masks, c, d, &spec, &bits);
-        let _ = covers(a, b, limit, invert, &masks, c, d, &spec, &bits, d);
+        let _ = covers(
+            a,
+            b,
+            limit,
+            invert,
+            &masks,
+            c,
+            d,
+            &spec,
+            &bits,
+            d,
+            a % 2 == 0,
+        );
         let mut unchanged =
             encode_set(a, b, limit, invert, &masks, c, d, &spec, &bits, &mut out).is_err();
         unchanged &= encode_cubes(a, b, limit, invert, &masks, c, &spec, &bits, &mut out).is_err();

@@ -1,6 +1,6 @@
 // Holds tests of the inverted chains in each call: examples worked by hand, refusals, and masks
 // beyond the chains. invert_masks.rs has the brute force, invert_text.rs the line of the text.
-// Follows document 02, R-4.
+// Follows document 02, R-4, and R-5 for the last seed.
 
 mod common;
 
@@ -84,15 +84,20 @@ fn windows_of_r_inverted() {
 
 #[test]
 fn sets_of_r_inverted() {
-    // Document 01's set 1x, 0x, which isn't cut without inversion.
-    let (spec, bits) = set(&["1x", "0x"]);
-    let wanted = [refused(8, 1), Ok(vec![2, 3]), refused(8, 1), Ok(vec![2])];
-    for (invert, wanted) in (0..).zip(wanted) {
-        let core = r(invert, "01");
-        assert_eq!(core.set(LIMIT, &spec, &bits), wanted);
-        let found = core.brute_set(LIMIT, &spec, &bits).unwrap();
-        assert!(found.rule_is_best(2));
-        assert_eq!(found.fewest, wanted.ok().map(|seeds| seeds.len()));
+    // Document 01's set 1x, 0x, in one window without a stop after it; then a set whose last
+    // slice is the stop, so that only the first can be cut.
+    for (texts, wanted) in [
+        (["1x", "0x"], [Ok(1), Ok(4), Ok(7), Ok(2)]),
+        (["1x", "01"], [refused(8, 1); 4]),
+    ] {
+        let (spec, bits) = set(&texts);
+        for (invert, wanted) in (0..).zip(wanted) {
+            let core = r(invert, "01");
+            assert_eq!(core.set(LIMIT, &spec, &bits), wanted.map(|seed| vec![seed]));
+            let found = core.brute_set(LIMIT, &spec, &bits).unwrap();
+            assert!(found.rule_is_best(2));
+            assert_eq!(found.fewest, wanted.ok().map(|_| 1));
+        }
     }
 }
 
@@ -102,9 +107,9 @@ fn the_sheet_of_r_inverted() {
     let (spec, bits) = set(&["10", "x1", "1x", "1x"]);
     for (invert, seeds, texts) in [
         (0, &[3, 3][..], ["10", "11", "10", "11"]),
-        (1, &[2, 6, 2], ["10", "11", "11", "10"]),
+        (1, &[2, 6, 0], ["10", "11", "11", "10"]),
         (2, &[5, 1], ["10", "11", "10", "11"]),
-        (3, &[4, 2, 6], ["10", "11", "10", "10"]),
+        (3, &[4, 0], ["10", "11", "11", "11"]),
     ] {
         let (core, count) = (r(invert, "0x"), seeds.len());
         let mut out = [9; 4];
@@ -161,8 +166,9 @@ fn seeds_of_r_inverted() {
 }
 
 #[test]
-fn the_state_0_covers_nothing() {
-    // Its slices are all the mask: slice 0 shows the stop, or none does.
+fn the_state_0_closes_nothing() {
+    // Its slices are all the mask: slice 0 shows the stop, or none does. Only as a last seed
+    // can it deliver slices.
     let mut random = Random(50);
     for _ in 0..300 {
         let (mut core, spec, bits) = small(&mut random, 6, 4);
@@ -172,7 +178,14 @@ fn the_state_0_covers_nothing() {
             assert!(!core.covers(LIMIT, &spec, &bits, 0));
             let shown = shows(core.stop.0, core.stop.1, invert);
             let number = if shown { 11 } else { 12 };
-            assert_eq!(core.expand(LIMIT, 1, &[0]), refused(number, 0));
+            assert_eq!(core.expand(LIMIT, 1, &[0, 0]), refused(number, 0));
+            assert_eq!(core.expand(LIMIT, 257, &[0]), refused(number, 0));
+            let wanted = if shown {
+                refused(11, 0)
+            } else {
+                Ok(vec![invert])
+            };
+            assert_eq!(core.expand(LIMIT, 1, &[0]), wanted);
         }
     }
 }
@@ -191,7 +204,8 @@ fn equal_masks_with_one_inverted() {
                 core(invert, stop).window(LIMIT, &spec, &bits),
                 refused(7, 0)
             );
-            assert_eq!(core(invert, stop).expand(LIMIT, 1, &[1]), refused(12, 0));
+            assert_eq!(core(invert, stop).expand(LIMIT, 257, &[1]), refused(12, 0));
+            assert_eq!(core(invert, stop).expand(LIMIT, 1, &[1]), Ok(vec![invert]));
         }
     }
     // Cell 2 holds 0, 0, 1 from state 1 on: 01, 01, then 10 if chain 2 is inverted.

@@ -1,6 +1,6 @@
 // Holds tests of the inverted chains against other ways: all masks of up to 4 chains against
 // the brute force and a model that compares characters, and 64 chains all inverted.
-// Follows document 02, R-4.
+// Follows document 02, R-4, and R-5 for the last seed.
 
 mod common;
 
@@ -158,7 +158,7 @@ fn judged(core: &Core, limit: u64, spec: &[u64], bits: &[u64]) -> Result<Vec<u64
     let slices = core.expand(limit, spec.len() as u64, seeds).unwrap();
     let chains = core.masks.len();
     let mut place = 0;
-    for (&seed, length) in seeds.iter().zip(core.lengths(seeds)) {
+    for (&seed, length) in seeds.iter().zip(core.lengths(spec.len(), seeds)) {
         assert!(length as u64 <= limit);
         let mut state = seed;
         for _ in 0..length {
@@ -255,7 +255,12 @@ fn all_masks_on_seeds() {
                 1 => refused(14, 1),
                 _ => Ok(wanted),
             };
-            let total = wanted.as_ref().map_or(2, |slices| slices.len() as u64);
+            // The seed is the last: 12 needs more slices left than the limit.
+            let total = match &wanted {
+                Ok(slices) => slices.len() as u64,
+                Err(refused) if refused.number == 12 => 5,
+                Err(_) => 2,
+            };
             let answer = core.expand(4, total, &[seed]);
             assert_eq!(answer, wanted);
             counts[answer.map_or_else(|refused| refused.number as usize, |_| 0)] += 1;
@@ -353,7 +358,8 @@ fn all_64_chains_inverted() {
     assert_eq!(answer, Ok(!bits[0]));
     assert_eq!(core.expand(LIMIT, 1, &[!bits[0]]), Ok(bits.to_vec()));
     // The state of ones never shows it, the state 0 at once.
-    assert_eq!(core.expand(LIMIT, 1, &[u64::MAX]), refused(12, 0));
+    assert_eq!(core.expand(LIMIT, 257, &[u64::MAX]), refused(12, 0));
+    assert_eq!(core.expand(LIMIT, 1, &[u64::MAX]), Ok(vec![0]));
     assert_eq!(core.expand(LIMIT, 1, &[0]), refused(11, 0));
 }
 
@@ -378,7 +384,7 @@ fn sets_of_2048_slices_inverted() {
             .zip(first)
             .all(|(v, state)| *v == 0x1ff ^ state));
         let late = before[limit as usize + 1];
-        assert_eq!(core.expand(limit, 1, &[late]), refused(12, 0));
+        assert_eq!(core.expand(limit, limit + 1, &[late]), refused(12, 0));
     }
     assert_eq!(core.set(1, &free(2049), &free(2049)), refused(3, 0));
 }

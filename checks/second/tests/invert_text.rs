@@ -1,5 +1,5 @@
 // Holds tests of the invert line in the text of the two programs.
-// Follows document 02, R-4, and document 01, "Sheet and seed list".
+// Follows document 02, R-4, with R-5 for the last seed, and document 01, "Sheet and seed list".
 
 mod common;
 
@@ -29,7 +29,7 @@ fn an_invert_line_of_the_sheet() {
         ("invert=0\n", "seed=3\nseed=3\n", SLICES),
         (
             "invert=1\n",
-            "seed=2\nseed=6\nseed=2\n",
+            "seed=2\nseed=6\nseed=0\n",
             "slice=10\nslice=11\nslice=11\nslice=10\n",
         ),
         (
@@ -39,8 +39,8 @@ fn an_invert_line_of_the_sheet() {
         ),
         (
             "invert=3\n",
-            "seed=4\nseed=2\nseed=6\n",
-            "slice=10\nslice=11\nslice=10\nslice=10\n",
+            "seed=4\nseed=0\n",
+            "slice=10\nslice=11\nslice=11\nslice=11\n",
         ),
     ] {
         let list = encoded(&put(SHEET, 6, line));
@@ -57,9 +57,10 @@ fn an_invert_line_of_the_sheet() {
 
 #[test]
 fn an_invert_line_and_a_window_line() {
-    // Of single slices, 2 covers 11 (5 is 00) and 4 covers 10 (1 is 01).
+    // Of single slices, 2 covers 11 (5 is 00) and 4 covers 10 (1 is 01); state 0, always 11,
+    // covers the last.
     let list = encoded(&put(SHEET, 6, "invert=3\nwindow=1\n"));
-    let seeds = "seed=4\nseed=2\nseed=2\nseed=2\n";
+    let seeds = "seed=4\nseed=2\nseed=2\nseed=0\n";
     let wanted = format!("{HEAD}invert=3\nwindow=1\nstop=0x\nslices=4\n{seeds}");
     assert_eq!(list, wanted);
     assert_eq!(expanded(&list), "slice=10\nslice=11\nslice=11\nslice=11\n");
@@ -97,12 +98,12 @@ fn document_01_s_list_inverted() {
     }
     // The seeds as they now come out, with the place of the refused one.
     for (line, seeds, number, at) in [
-        ("invert=1\n", "seed=6\nseed=0\n", 12, 1),
+        ("invert=1\n", "seed=0\nseed=6\n", 12, 0),
         ("invert=1\n", "seed=6\nseed=8\n", 10, 1),
         ("invert=1\n", "seed=6\nseed=2\n", 14, 3),
         ("invert=2\n", "seed=5\nseed=0\n", 11, 1),
-        ("invert=2\n", "seed=5\nseed=5\n", 14, 6),
-        ("invert=2\nwindow=2\n", "seed=3\nseed=5\n", 12, 1),
+        ("invert=2\n", "seed=5\nseed=5\nseed=5\n", 14, 6),
+        ("invert=2\nwindow=2\n", "seed=5\nseed=3\n", 12, 0),
         ("invert=3\n", "seed=0\nseed=1\n", 12, 0),
         ("invert=3\n", "", 14, 0),
     ] {
@@ -146,11 +147,14 @@ fn the_range_for_every_number_of_chains() {
             let line = format!("invert={mask:x}\n");
             let sheet = format!("{head}{line}depth=1\nslice={x}\n");
             let list = format!("{head}{line}stop=1{}\nslices=1\nseed=0\n", &x[1..]);
-            // The one cell never changes: no window is covered, no seed stops later.
+            // The one cell never changes: no seed stops later, and the state that keeps chain
+            // 1 at 0 covers the last slice.
             if mask & !all == 0 {
-                assert_eq!(encoded(&sheet), refusal(8, 0));
-                let number = if mask & 1 == 1 { 11 } else { 12 };
-                assert_eq!(expanded(&list), refusal(number, 0));
+                let seed = format!("seed={}\n", mask & 1);
+                assert_eq!(encoded(&sheet), list.replace("seed=0\n", &seed));
+                let slice = format!("slice={}\n", slice_text(chains, all, mask));
+                let wanted = [slice, refusal(11, 0)];
+                assert_eq!(expanded(&list), wanted[(mask & 1) as usize]);
             } else {
                 assert_eq!(encoded(&sheet), refusal(2, chains + 4));
                 assert_eq!(expanded(&list), refusal(2, chains + 4));
@@ -353,9 +357,16 @@ fn widest_slices_inverted() {
     let wanted = format!("{text}{stop}slices=1\nseed=7fffffffffffffff\n");
     assert_eq!(list, wanted);
     assert_eq!(expanded(&list), slice);
-    // With taps in all cells cell 0 gets a 1, and the stop doesn't follow.
-    let other = sheet.replace("taps=8000000000000000", "taps=ffffffffffffffff");
-    assert_eq!(encode_text(other.as_bytes()), refusal(8, 0).as_bytes());
+    // With taps in all cells cell 0 gets a 1, and the stop doesn't follow: the slice can only
+    // be the last.
+    let (old, new) = ("taps=8000000000000000", "taps=ffffffffffffffff");
+    let encode = |text: &str| String::from_utf8(encode_text(text.as_bytes())).unwrap();
+    assert_eq!(encode(&sheet.replace(old, new)), list.replace(old, new));
+    let twice = format!("{sheet}{slice}");
+    let seeds = "seed=7fffffffffffffff\n".repeat(2);
+    let wanted = format!("{text}{stop}slices=2\n{seeds}");
+    assert_eq!(encode(&twice), wanted);
+    assert_eq!(encode(&twice.replace(old, new)), refusal(8, 0));
 }
 
 #[test]

@@ -1,5 +1,5 @@
 // Holds tests of the window line in the text of the two programs.
-// Follows document 02, R-3, and document 01, "Sheet and seed list".
+// Follows document 02, R-3, with R-5 for the last seed, and document 01, "Sheet and seed list".
 
 mod common;
 
@@ -305,13 +305,19 @@ fn cubes_and_their_text_at_every_limit() {
         let (most, masks) = (limit as u64, &core.masks);
         let answer = encode_cubes(9, 0x108, most, 0, masks, 1, &spec, &bits, &mut out);
         assert_eq!(answer, Ok((0x1ff, 0x1ff, out.len())), "{limit}");
-        assert!(out.iter().all(|&seed| seed == before[limit]));
+        // The last window goes without its stop, and a lower state may cover it.
+        let (last, others) = out.split_last().unwrap();
+        assert!(others.iter().all(|&seed| seed == before[limit]));
+        let start = spec.len() - limit;
+        let covers = |&state: &u64| core.covers_last(most, &spec[start..], &bits[start..], state);
+        assert_eq!((0..512).find(covers), Some(*last));
         let mut short = vec![9; out.len() - 1];
         let answer = encode_cubes(9, 0x108, most, 0, masks, 1, &spec, &bits, &mut short);
         assert_eq!(answer, refused(9, out.len() as u64));
         let (head, window) = (head(&core), format!("window={limit}\n"));
         let tail = format!("stop=111111111\nslices={}\n", spec.len());
-        let seeds = format!("seed={:x}\n", before[limit]).repeat(out.len());
+        let mut seeds = format!("seed={:x}\n", before[limit]).repeat(out.len() - 1);
+        seeds.push_str(&format!("seed={last:x}\n"));
         let list = format!("{head}{window}{tail}{seeds}");
         let slices = slice_lines(9, &spec, &bits);
         let printed = encoded(&format!("{head}{window}depth=1\n{slices}"));

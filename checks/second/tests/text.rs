@@ -1,6 +1,6 @@
 // Holds tests of the text of the two programs.
-// Follows document 01, "Sheet and seed list"; some sheets have document 02's invert and
-// window lines.
+// Follows document 01, "Sheet and seed list", with document 02, R-5, for the last seed; some
+// sheets have document 02's invert and window lines.
 
 mod common;
 
@@ -183,8 +183,11 @@ fn causes_after_the_whole_sheet() {
     let text = with(&with(SHEET, 7, "slice=00\n"), 8, "slice=11\n");
     let text = with(&with(&text, 9, "slice=01\n"), 10, "slice=10\n");
     assert_eq!(encode(&text), refused(6, 0));
-    let head = "cells=1\ntaps=1\nchains=1\nchain=1\ndepth=1\n";
-    assert_eq!(encode(&format!("{head}slice=0\n")), refused(8, 0));
+    // Two equal chains can't differ.
+    let head = "cells=1\ntaps=1\nchains=2\nchain=1\nchain=1\n";
+    assert_eq!(encode(&format!("{head}depth=1\nslice=01\n")), refused(8, 0));
+    let list = format!("{head}stop=1x\nslices=1\nseed=0\n");
+    assert_eq!(encode(&format!("{head}depth=1\nslice=00\n")), list);
 }
 
 #[test]
@@ -201,7 +204,7 @@ fn list_lines() {
         (7, "slices=04\n", 13, 7),
         (7, "slices=10000\n", 13, 7),
         (7, "slices=5\n", 14, 4),
-        (7, "slices=1\n", 14, 4),
+        (7, "slices=1\n", 14, 2),
         (8, "seed=03\n", 13, 8),
         (8, "seed=\n", 13, 8),
         (8, "seed=G\n", 13, 8),
@@ -224,8 +227,10 @@ fn list_lines() {
     assert_eq!(expand(&lines[..7].concat()), refused(14, 0));
     assert_eq!(expand(&lines[..6].concat()), refused(13, 7));
     assert_eq!(expand(&lines[..5].concat()), refused(13, 6));
-    let other = with(&with(LIST, 6, "stop=01\n"), 9, "seed=0\n");
-    assert_eq!(expand(&other), refused(12, 1));
+    let other = with(LIST, 6, "stop=01\n");
+    assert_eq!(expand(&with(&other, 8, "seed=0\n")), refused(12, 0));
+    let last = with(&other, 9, "seed=0\n");
+    assert_eq!(expand(&last), "slice=10\nslice=11\nslice=00\nslice=00\n");
     // A line out of form after a seed that would be refused.
     assert_eq!(
         expand(&with(&with(LIST, 8, "seed=8\n"), 9, "seed=\n")),

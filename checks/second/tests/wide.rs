@@ -95,7 +95,7 @@ fn rising(
         assert!(last.is_none_or(|before| before < state));
         last = Some(state);
         let (s, b) = stop;
-        if covers(cells, taps, LIMIT, 0, masks, s, b, spec, bits, state) {
+        if covers(cells, taps, LIMIT, 0, masks, s, b, spec, bits, state, true) {
             return Some(Some(state));
         }
     }

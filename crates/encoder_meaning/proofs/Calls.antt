@@ -72,7 +72,7 @@ module _ (g : Settings) (masks : List ℕ) (stop : TestSlice) (specified bits : 
 
   list-back : verdict-of ≡ verdict.WellFormed → (seeds : List ℕ) → Shortest M R set seeds → Delivers set (expandList g masks stop (length specified) seeds)
   list-back w seeds l =
-      let d = list-delivers M R set refl (l .ends) seeds (l .covers) in
+      let d = list-delivers M R set (l .ends) seeds (l .covers) in
       record { slices = d .slices; accepted = λ out. expands-back w seeds out l ∙ d .accepted out; whole = d .whole; agree = d .agree }
 
   module _ (out : List ℕ) where

@@ -2,11 +2,10 @@
 --     shortest-list     the seeds of the greedy cutting are a shortest list, ahead at every seed
 --     uncut-set         where greedy is stuck, there is no cutting, and the place is the longest start that can be cut
 --     encoding-means    the outcome of the encoding
---     list-delivers     a list that covers a cutting, expanded, delivers the whole set in order, where every window closes
+--     list-delivers     a list that covers a cutting, expanded, delivers the whole set in order
 -- Assumes nothing.
 use mathlib.Core.Path.{_≡_, refl, sym}
 use mathlib.Core.Logic.{_⊎_, inl, inr}
-use mathlib.Core.Bool.{false}
 use mathlib.Core.List.{List}
 use Prim.Native.Nat.{ℕ, _<_}
 use native.Mathlib.Omega.{arith}
@@ -87,7 +86,7 @@ module _ (M : Machine) (R : Rules) (set : List TestSlice) where
         go (done es) f = listed (seedsOf M R set 0 es) (shortest-list es f) (fill-cases (seedsOf M R set 0 es) out)
         go (stuck g) s = refused g (uncut-set g s)
 
-  pub list-delivers : R .openEnd ≡ false → (es ss : List ℕ) → Covering (CoveredBy M R set) 0 es ss n → Delivers set (expanding M R n ss)
-  list-delivers closed es ss c =
-      let r = expand-covering M R set closed es ss c in
+  pub list-delivers : (es ss : List ℕ) → Covering (CoveredBy M R set) 0 es ss n → Delivers set (expanding M R n ss)
+  list-delivers es ss c =
+      let r = expand-covering M R set es ss c in
       record { slices = r .0; accepted = r .1; whole = agree-length (r .2); agree = agree-at (r .2) }

@@ -39,7 +39,7 @@ fn encode_upright(
         settings,
         stop,
         pattern,
-        closing: true,
+        closing: false,
     };
     let none = Gathered { place: 0, count: 0 };
     let gathered = encoder_gathering::gather(

@@ -1,4 +1,3 @@
 -- The starred examples of document 01.
 pub mod Reading
 pub mod Table
-pub mod OpenEnd

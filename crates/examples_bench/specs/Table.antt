@@ -1,4 +1,4 @@
--- The starred examples of document 01, "Bench examples", and examples of R-1 and R-3 of document 02: one table, and one proof over it. Register R is cells 3, taps 6, chain masks 1 and 4.
+-- The starred examples of document 01, "Bench examples", and examples of R-1, R-3, R-4 and R-5 of document 02: one table, and one proof over it. Register R is cells 3, taps 6, chain masks 1 and 4.
 --     Question     what is asked, in the words of the examples
 --     Told         what is told: numbers, a slice, a list with its stop slice, or a refusal with its number and value
 --     answer       what the definitions answer, under the settings of a call
@@ -151,11 +151,13 @@ table =
     -- state 7 fits the bits of 11, xx and shows the stop at slice 2, and also at slice 1
     ∷ record { asked = fitting "01" ("11" ∷ "xx" ∷ []) 7; told = numbers (1 ∷ []) }
     ∷ record { asked = showing "01" 3 7; told = numbers (1 ∷ 2 ∷ []) }
-    -- the set 1x, 0x
-    ∷ record { asked = set "01" ("1x" ∷ "0x" ∷ []); told = refused 8 1 }
-    -- seed 6 is refused by 11, seed 0 by 12
+    -- the set 1x, 0x: refused by 8 until R-5 of document 02; given singly it still has no seed
+    ∷ record { asked = set "01" ("1x" ∷ "0x" ∷ []); told = numbers (1 ∷ []) }
+    ∷ record { asked = window "01" ("1x" ∷ "0x" ∷ []); told = refused 7 0 }
+    -- seed 6 is refused by 11; seed 0 by 12 until R-5, and since then only where another seed follows or more slices than the limit are left
     ∷ record { asked = expand "01" 1 (6 ∷ []); told = refused 11 0 }
-    ∷ record { asked = expand "01" 1 (0 ∷ []); told = refused 12 0 }
+    ∷ record { asked = expand "01" 1 (0 ∷ []); told = numbers (0 ∷ []) }
+    ∷ record { asked = expand "01" 2 (0 ∷ 3 ∷ []); told = refused 12 0 }
     -- the sheet: stop 0x, seeds 3 and 3
     ∷ record { asked = sheet 2 ("10" ∷ "x1" ∷ "1x" ∷ "1x" ∷ []); told = list-is (slice "0x") (3 ∷ 3 ∷ []) }
     -- and its list expanded: 10, 11, 10, 11
@@ -166,8 +168,8 @@ table =
     ∷ record { asked = under 2 (set "01" ("10" ∷ "x1" ∷ [])); told = numbers (3 ∷ []) }
     ∷ record { asked = under 1 (set "01" ("10" ∷ "x1" ∷ [])); told = refused 8 0 }
     -- R-3: four slices need two windows of two; depth 4 is lawful with a limit of 2
-    ∷ record { asked = under 2 (set "01" ("xx" ∷ "xx" ∷ "xx" ∷ "xx" ∷ [])); told = numbers (3 ∷ 3 ∷ []) }
-    ∷ record { asked = under 2 (sheet 4 ("xx" ∷ "xx" ∷ "xx" ∷ "xx" ∷ [])); told = list-is (slice "1x") (6 ∷ 6 ∷ []) }
+    ∷ record { asked = under 2 (set "01" ("xx" ∷ "xx" ∷ "xx" ∷ "xx" ∷ [])); told = numbers (3 ∷ 0 ∷ []) }
+    ∷ record { asked = under 2 (sheet 4 ("xx" ∷ "xx" ∷ "xx" ∷ "xx" ∷ [])); told = list-is (slice "1x") (6 ∷ 0 ∷ []) }
     -- R-3: seed 3 shows the stop at slice 2, which a limit of 2 reaches and one of 1 does not
     ∷ record { asked = under 2 (expand "01" 2 (3 ∷ [])); told = numbers (1 ∷ 3 ∷ []) }
     ∷ record { asked = under 1 (expand "01" 2 (3 ∷ [])); told = refused 12 0 }
@@ -178,19 +180,21 @@ table =
     ∷ record { asked = under 0 (expand "01" 2 (3 ∷ [])); told = refused 3 0 }
     -- R-4: with chain 2 inverted all slices of state 0 are 01, the stop; with chain 1 they are 10
     ∷ record { asked = inverted 2 (expand "01" 1 (0 ∷ [])); told = refused 11 0 }
-    ∷ record { asked = inverted 1 (expand "01" 1 (0 ∷ [])); told = refused 12 0 }
-    -- R-4: the set 10, x1 has its seed where no chain is inverted
+    ∷ record { asked = inverted 1 (expand "01" 1 (0 ∷ [])); told = numbers (1 ∷ []) }
+    -- R-4: the set 10, x1 under each inversion
     ∷ record { asked = inverted 0 (set "01" ("10" ∷ "x1" ∷ [])); told = numbers (3 ∷ []) }
-    ∷ record { asked = inverted 1 (set "01" ("10" ∷ "x1" ∷ [])); told = refused 8 1 }
-    ∷ record { asked = inverted 2 (set "01" ("10" ∷ "x1" ∷ [])); told = refused 8 0 }
-    -- R-4: the slices 1x, 0x, which cannot be cut, have the seed 2 with both chains inverted; it delivers 11, 00
+    ∷ record { asked = inverted 1 (set "01" ("10" ∷ "x1" ∷ [])); told = numbers (2 ∷ 4 ∷ []) }
+    ∷ record { asked = inverted 2 (set "01" ("10" ∷ "x1" ∷ [])); told = numbers (5 ∷ []) }
+    ∷ record { asked = inverted 3 (set "01" ("10" ∷ "x1" ∷ [])); told = numbers (4 ∷ 0 ∷ []) }
+    -- R-4: the window 1x, 0x, which has no seed, has the seed 2 with both chains inverted; it delivers 11, 00
     ∷ record { asked = inverted 3 (window "01" ("1x" ∷ "0x" ∷ [])); told = numbers (2 ∷ []) }
     ∷ record { asked = inverted 3 (set "01" ("1x" ∷ "0x" ∷ [])); told = numbers (2 ∷ []) }
     ∷ record { asked = inverted 3 (expand "01" 2 (2 ∷ [])); told = numbers (3 ∷ 0 ∷ []) }
     -- R-4: the stop of a sheet is formed over its slices as written, and its seeds are others
     ∷ record { asked = inverted 2 (sheet 2 ("10" ∷ "x1" ∷ "1x" ∷ "1x" ∷ [])); told = list-is (slice "0x") (5 ∷ 1 ∷ []) }
-    ∷ record { asked = inverted 3 (sheet 2 ("10" ∷ "x1" ∷ "1x" ∷ "1x" ∷ [])); told = list-is (slice "0x") (4 ∷ 2 ∷ 6 ∷ []) }
+    ∷ record { asked = inverted 3 (sheet 2 ("10" ∷ "x1" ∷ "1x" ∷ "1x" ∷ [])); told = list-is (slice "0x") (4 ∷ 0 ∷ []) }
     ∷ record { asked = inverted 3 (expand "0x" 4 (4 ∷ 2 ∷ 6 ∷ [])); told = numbers (1 ∷ 3 ∷ 1 ∷ 1 ∷ []) }
+    ∷ record { asked = inverted 3 (expand "0x" 4 (4 ∷ 0 ∷ [])); told = numbers (1 ∷ 3 ∷ 3 ∷ 3 ∷ []) }
     -- R-4: with a limit, which seed 3 needs in full
     ∷ record { asked = inverted 2 (under 5 (expand "01" 5 (3 ∷ []))); told = numbers (3 ∷ 1 ∷ 0 ∷ 0 ∷ 3 ∷ []) }
     ∷ record { asked = inverted 2 (under 4 (expand "01" 5 (3 ∷ []))); told = refused 12 0 }
@@ -199,6 +203,31 @@ table =
     ∷ record { asked = inverted 7 (set "01" ("10" ∷ "x1" ∷ [])); told = refused 2 0 }
     ∷ record { asked = inverted 4 (sheet 0 ("10" ∷ [])); told = refused 2 0 }
     ∷ record { asked = inverted 4 (under 0 (expand "01" 1 (0 ∷ []))); told = refused 2 0 }
+    -- R-5: state 0 may be a last seed; 8 counts only starts whose windows all close, and 00 has no such window
+    ∷ record { asked = set "01" ("00" ∷ []); told = numbers (0 ∷ []) }
+    ∷ record { asked = set "01" ("00" ∷ "10" ∷ []); told = refused 8 0 }
+    ∷ record { asked = set "01" ("1x" ∷ "0x" ∷ "01" ∷ []); told = refused 8 1 }
+    -- R-5: the seed of the last window is the lowest state, whatever comes after
+    ∷ record { asked = set "01" ("xx" ∷ "xx" ∷ []); told = numbers (0 ∷ []) }
+    -- R-5: the windows of 11, 10, 00 have 1 and 2 slices, for 11, 10 is no window that closes; as a set it has the seed 5
+    ∷ record { asked = set "01" ("11" ∷ "10" ∷ "00" ∷ []); told = numbers (7 ∷ 1 ∷ []) }
+    ∷ record { asked = set "01" ("11" ∷ "10" ∷ []); told = numbers (5 ∷ []) }
+    -- R-5: the last window keeps to the limit
+    ∷ record { asked = under 1 (set "01" ("xx" ∷ "xx" ∷ [])); told = numbers (7 ∷ 0 ∷ []) }
+    -- R-5: the last seed ends where the slices end; one with nothing left is cause 14, after 10 and 11
+    ∷ record { asked = expand "01" 3 (3 ∷ 3 ∷ []); told = numbers (1 ∷ 3 ∷ 1 ∷ []) }
+    ∷ record { asked = expand "01" 2 (3 ∷ 3 ∷ []); told = refused 14 2 }
+    ∷ record { asked = expand "01" 1 (3 ∷ 3 ∷ []); told = refused 14 2 }
+    ∷ record { asked = expand "01" 2 (3 ∷ 0 ∷ []); told = refused 14 2 }
+    ∷ record { asked = expand "01" 2 (3 ∷ 6 ∷ []); told = refused 11 1 }
+    ∷ record { asked = expand "01" 2 (3 ∷ 8 ∷ []); told = refused 10 1 }
+    -- R-5: a stop before that is cause 14
+    ∷ record { asked = expand "01" 4 (3 ∷ []); told = refused 14 2 }
+    -- R-5: with more slices left than the limit, a last seed without a stop is cause 12, and one with it 14
+    ∷ record { asked = under 2 (expand "01" 2 (0 ∷ [])); told = numbers (0 ∷ 0 ∷ []) }
+    ∷ record { asked = under 2 (expand "01" 3 (0 ∷ [])); told = refused 12 0 }
+    ∷ record { asked = under 5 (expand "01" 6 (1 ∷ [])); told = refused 14 5 }
+    ∷ record { asked = under 4 (expand "01" 6 (1 ∷ [])); told = refused 12 0 }
     ∷ []
 
 pub answers : List Row → List Told

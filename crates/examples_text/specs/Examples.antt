@@ -154,23 +154,23 @@ table =
     ∷ record { asked = encode (R "depth=1\n" ++ times 2049 (bytes "slice=xx\n")); told = prints (bytes "refused=3\nat=2055\n") }
     ∷ record { asked = expand (R "stop=0x\nslices=4\n" ++ (times 2048 (bytes "seed=8\n") ++ bytes "seed=8")); told = prints (bytes "refused=13\nat=2056\n") }
     ∷ record { asked = expand (R "stop=0x\nslices=4\n" ++ times 2048 (bytes "seed=8\n")); told = prints (bytes "refused=10\nat=0\n") }
-    -- over the whole sheet: no slice line, depth does not divide, slices 0 and 1 of one chain, one of two slices can be cut
+    -- over the whole sheet: no slice line, depth does not divide, slices 0 and 1 of one chain, one of three slices can be cut
     ∷ record { asked = encode (R "depth=2\n"); told = prints (bytes "refused=3\nat=0\n") }
     ∷ record { asked = encode (R "depth=2\nslice=10\n"); told = prints (bytes "refused=3\nat=0\n") }
     ∷ record { asked = encode (bytes "cells=3\ntaps=6\nchains=1\nchain=1\ndepth=1\nslice=0\nslice=1\n"); told = prints (bytes "refused=6\nat=0\n") }
-    ∷ record { asked = encode (R "depth=1\nslice=1x\nslice=01\n"); told = prints (bytes "refused=8\nat=1\n") }
+    ∷ record { asked = encode (R "depth=1\nslice=10\nslice=01\nslice=00\n"); told = prints (bytes "refused=8\nat=1\n") }
     -- the designer's six slices of R-1, document 02: the steps end with slices in, and 11 is spare
-    ∷ record { asked = encode (bytes "cells=4\ntaps=9\nchains=2\nchain=1\nchain=8\ndepth=1\nslice=1x\nslice=1x\nslice=1x\nslice=10\nslice=00\nslice=01\n"); told = prints (bytes "cells=4\ntaps=9\nchains=2\nchain=1\nchain=8\nstop=11\nslices=6\nseed=1\nseed=5\nseed=6\n") }
+    ∷ record { asked = encode (bytes "cells=4\ntaps=9\nchains=2\nchain=1\nchain=8\ndepth=1\nslice=1x\nslice=1x\nslice=1x\nslice=10\nslice=00\nslice=01\n"); told = prints (bytes "cells=4\ntaps=9\nchains=2\nchain=1\nchain=8\nstop=11\nslices=6\nseed=1\nseed=5\nseed=4\n") }
     -- over the whole list: no seed line, a seed beyond the cells, at the stop, without a stop, another total
     ∷ record { asked = expand (R "stop=0x\nslices=4\n"); told = prints (bytes "refused=14\nat=0\n") }
     ∷ record { asked = expand (R "stop=0x\nslices=4\nseed=3\nseed=8\n"); told = prints (bytes "refused=10\nat=1\n") }
     ∷ record { asked = expand (R "stop=01\nslices=1\nseed=6\n"); told = prints (bytes "refused=11\nat=0\n") }
-    ∷ record { asked = expand (R "stop=01\nslices=1\nseed=0\n"); told = prints (bytes "refused=12\nat=0\n") }
+    ∷ record { asked = expand (R "stop=01\nslices=2\nseed=0\nseed=3\n"); told = prints (bytes "refused=12\nat=0\n") }
     ∷ record { asked = expand (R "stop=0x\nslices=4\nseed=3\n"); told = prints (bytes "refused=14\nat=2\n") }
     -- every line is read before that
     ∷ record { asked = expand (R "stop=0x\nslices=4\nseed=8\nseed=g\n"); told = prints (bytes "refused=13\nat=9\n") }
     -- R-3, document 02: the list repeats the window line, `window=256` too, and is read with it; depth 4 is lawful with a limit of 2
-    ∷ record { asked = encode (R "window=2\ndepth=4\nslice=xx\nslice=xx\nslice=xx\nslice=xx\n"); told = prints (bytes "cells=3\ntaps=6\nchains=2\nchain=1\nchain=4\nwindow=2\nstop=1x\nslices=4\nseed=6\nseed=6\n") }
+    ∷ record { asked = encode (R "window=2\ndepth=4\nslice=xx\nslice=xx\nslice=xx\nslice=xx\n"); told = prints (bytes "cells=3\ntaps=6\nchains=2\nchain=1\nchain=4\nwindow=2\nstop=1x\nslices=4\nseed=6\nseed=0\n") }
     ∷ record { asked = encode (R "window=256\ndepth=2\nslice=10\nslice=x1\nslice=1x\nslice=1x\n"); told = prints (bytes "cells=3\ntaps=6\nchains=2\nchain=1\nchain=4\nwindow=256\nstop=0x\nslices=4\nseed=3\nseed=3\n") }
     ∷ record { asked = encode (R "window=2\ndepth=1\nslice=00\nslice=11\n"); told = prints (bytes "cells=3\ntaps=6\nchains=2\nchain=1\nchain=4\nwindow=2\nstop=10\nslices=2\nseed=2\n") }
     ∷ record { asked = encode (R "window=1\ndepth=1\nslice=00\nslice=11\n"); told = prints (bytes "refused=8\nat=0\n") }
@@ -204,6 +204,14 @@ table =
     ∷ record { asked = encode (R "window=2\ninvert=2\n"); told = prints (bytes "refused=13\nat=7\n") }
     ∷ record { asked = expand (R "stop=0x\ninvert=2\n"); told = prints (bytes "refused=13\nat=7\n") }
     ∷ record { asked = encode (R "invert=2\nwindow=2\n"); told = prints (bytes "refused=13\nat=8\n") }
+    -- R-5, document 02: state 0 as the last seed; the slices 1x, 01, of which one could be cut before
+    ∷ record { asked = encode (R "depth=1\nslice=00\n"); told = prints (bytes "cells=3\ntaps=6\nchains=2\nchain=1\nchain=4\nstop=1x\nslices=1\nseed=0\n") }
+    ∷ record { asked = encode (R "depth=1\nslice=1x\nslice=01\n"); told = prints (bytes "cells=3\ntaps=6\nchains=2\nchain=1\nchain=4\nstop=11\nslices=2\nseed=3\nseed=4\n") }
+    -- R-5: the last seed ends where the slices end; with nothing left it is refused by 14, with more left than the limit by 12
+    ∷ record { asked = expand (R "stop=01\nslices=3\nseed=3\nseed=3\n"); told = prints (bytes "slice=10\nslice=11\nslice=10\n") }
+    ∷ record { asked = expand (R "stop=01\nslices=2\nseed=3\nseed=3\n"); told = prints (bytes "refused=14\nat=2\n") }
+    ∷ record { asked = expand (R "window=2\nstop=01\nslices=2\nseed=0\n"); told = prints (bytes "slice=00\nslice=00\n") }
+    ∷ record { asked = expand (R "window=2\nstop=01\nslices=3\nseed=0\n"); told = prints (bytes "refused=12\nat=0\n") }
     -- the sheet's list in a buffer with one byte more, and with one byte less: 71 bytes, 2 seeds
     ∷ record { asked = encode-into 72 (R "depth=2\nslice=10\nslice=x1\nslice=1x\nslice=1x\n"); told = leaves (Text 71 2) (bytes "cells=3\ntaps=6\nchains=2\nchain=1\nchain=4\nstop=0x\nslices=4\nseed=3\nseed=3\n" ++ old 1) }
     ∷ record { asked = encode-into 70 (R "depth=2\nslice=10\nslice=x1\nslice=1x\nslice=1x\n"); told = leaves (Refused (record { number = 9; value = 71 }) 2) (old 70) }

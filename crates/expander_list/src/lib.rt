@@ -30,7 +30,7 @@ fn expand_formed(
     ensures answer { λ r. ⌜ r ≡ expanding (machine settings (now (masks .entry))) (rules settings stop) slices (now (seeds .entry)) (now (out .entry)) .answer ⌝ }
     ensures buffer { λ _. ⌜ now (out .exit) ≡ expanding (machine settings (now (masks .entry))) (rules settings stop) slices (now (seeds .entry)) (now (out .entry)) .buffer ⌝ }
 {
-    let found = expander_total::total_of(settings, register, masks, stop, seeds);
+    let found = expander_total::total_of(settings, register, masks, stop, slices, seeds);
     match found {
         Written::Refused(cause) => Written::Refused(cause),
         Written::Count(total) => {
@@ -40,7 +40,7 @@ fn expand_formed(
             if out.len() < total {
                 return Written::Refused(Cause::NoSpace(total));
             }
-            expander_writing::write_all(settings, register, masks, stop, seeds, out);
+            expander_writing::write_all(settings, register, masks, stop, slices, seeds, out);
             Written::Count(total)
         }
     }

@@ -141,5 +141,5 @@ module _ (g : Settings) (masks : List ℕ) (stop : TestSlice) (n : ℕ) (seeds o
   turns = rw (list-expands g masks stop n seeds out formed, list-expands (upright g) masks (flipped (g .invert) stop) n seeds out (list-upright g masks stop n (length seeds) formed), inverted-walk g masks (rules g stop) n 0 0 seeds)
       (total-turned (g .invert) n out (walk (machine (upright g) masks) (rules (upright g) (flipped (g .invert) stop)) n 0 0 seeds))
 
-  pub inverted-list : InvertedList g masks stop n seeds out formed
+  pub inverted-list : InvertedList g masks stop n seeds out
   inverted-list = record { answer = turns .answer; slices = turns .slices }

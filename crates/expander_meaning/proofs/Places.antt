@@ -1,27 +1,31 @@
--- The walk over the seeds from a place on, by what the seed at that place gives.
---     walk-beyond, walk-at-stop, walk-endless     it is refused by 10, 11, 12
+-- The walk over the seeds from a place on, by what the seed at that place delivers.
+--     given                        what it delivers: it is the last one where no place follows
+--     walk-refused, walk-nothing   it is refused; it has nothing left to deliver
 --     walk-next                    it delivers its slices, and the seeds behind it theirs
 -- Assumes nothing.
-use mathlib.Core.Path.{_≡_, ap, _∙_}
-use mathlib.Core.Bool.{true, false}
-use mathlib.Core.Option.{Option, none, some}
-use mathlib.Core.List.{List, _∷_}
-use Prim.Native.Nat.{ℕ, suc, _+_, _-_, _<_}
+use mathlib.Core.Path.{_≡_, refl, sym, ap, _∙_}
+use mathlib.Core.Bool.{Bool, true, false}
+use mathlib.Core.List.{List, [], _∷_}
+use Prim.Native.Nat.{ℕ, zero, suc, _+_, _-_, _<_}
 use native.Mathlib.Numerals.{add-one}
-use lib.ListN.{length, getD, drop}
+use native.Mathlib.Omega.{arith}
+use lib.Dec.{eqb}
+use lib.ListN.{length, getD, drop, length-drop}
 use lib.Seq.{drop-cons}
+use borrow.Author.Tests.{eq-eqb, ne-eqb}
 use Rattle.refusal_causes.specs.declared.Cause.{Cause}
-use Rattle.refusal_causes.specs.declared.Cause.the-variants.{SeedBeyond, SeedAtStop, SeedEndless}
-use Rattle.words_gf2.specs.Words.{beyond}
+use Rattle.refusal_causes.specs.declared.Cause.the-variants.{Total}
 use Rattle.machine_settings.specs.declared.Settings.{Settings}
 use Rattle.machine_settings.specs.Machine.{Machine, machine}
-use Rattle.machine_settings.proofs.Machine.{machine-states}
 use Rattle.machine_slices.specs.declared.TestSlice.{TestSlice}
 use Rattle.theory_covering.specs.Rules.{Rules, rules}
-use Rattle.expander_meaning.specs.Run.{slicesOf, firstStop, fails, ending, delivers}
-use Rattle.expander_meaning.specs.Expanding.{Walk, failed, after, walk}
-use Rattle.expander_meaning.proofs.OneSeed.{walk-fails, walk-gives}
-use Rattle.expander_meaning.proofs.Covered.{ending-closed}
+use Rattle.expander_meaning.specs.Run.{Given, slicesOf, gives, fails, delivers}
+use Rattle.expander_meaning.specs.Expanding.{Walk, failed, after, isLast, walk}
+use Rattle.expander_meaning.proofs.OneSeed.{walk-fails, walk-idle, walk-gives}
+
+last-behind : (l : List ℕ) (place n : ℕ) → length l ≡ n - suc place → place < n → isLast l ≡ eqb (place + 1) n
+last-behind [] place n e h = sym (eq-eqb (place + 1) n (omega arith))
+last-behind (s ∷ l) place n e h = sym (ne-eqb (place + 1) n (λ q. omega arith))
 
 module _ (g : Settings) (masks : List ℕ) (stop : TestSlice) (seeds : List ℕ) (n : ℕ) where
   abbrev M : Machine
@@ -30,40 +34,28 @@ module _ (g : Settings) (masks : List ℕ) (stop : TestSlice) (seeds : List ℕ)
   abbrev R : Rules
   R = rules g stop
 
-  module _ (place done : ℕ) (there : place < length seeds) where
+  module _ (place done : ℕ) where
     abbrev seed : ℕ
     seed = getD seeds place 0
-
-    abbrev stops : Option ℕ
-    stops = firstStop M stop (suc (g .limit)) seed
 
     abbrev rest : Walk
     rest = walk M R n place done (drop place seeds)
 
-    split : drop place seeds ≡ seed ∷ drop (suc place) seeds
-    split = drop-cons seeds place 0 there
+    abbrev pub given : Given
+    given = delivers M R stop place (eqb (place + 1) (length seeds)) (n - done) seed
 
-    refused : (c : Cause) → delivers M R stop place false (n - done) seed ≡ fails c → rest ≡ failed c
-    refused c e = ap (walk M R n place done) split ∙ walk-fails M R n place done seed (drop (suc place) seeds) c e
+    module _ (there : place < length seeds) where
+      split : rest ≡ walk M R n place done (seed ∷ drop (suc place) seeds)
+      split = ap (walk M R n place done) (drop-cons seeds place 0 there)
 
-    pub walk-beyond : beyond (g .cells) seed ≡ true → rest ≡ failed (SeedBeyond place)
-    unfolding delivers
-    walk-beyond b = refused (SeedBeyond place) (rw (machine-states g masks seed, b, delivers))
+      same-given : delivers M R stop place (isLast (drop (suc place) seeds)) (n - done) seed ≡ given
+      same-given = ap (λ (b : Bool). delivers M R stop place b (n - done) seed) (last-behind (drop (suc place) seeds) place (length seeds) (length-drop (suc place) seeds) there)
 
-    module _ (state : beyond (g .cells) seed ≡ false) where
-      by-stop : delivers M R stop place false (n - done) seed ≡ ending place false (n - done) stops
-      unfolding delivers
-      by-stop = rw (machine-states g masks seed, state, delivers)
+      pub walk-refused : (c : Cause) → given ≡ fails c → rest ≡ failed c
+      walk-refused c e = split ∙ walk-fails M R n place done seed (drop (suc place) seeds) c (same-given ∙ e)
 
-      pub walk-at-stop : stops ≡ some 0 → rest ≡ failed (SeedAtStop place)
-      unfolding ending
-      walk-at-stop e = refused (SeedAtStop place) (by-stop ∙ rw e)
+      pub walk-nothing : given ≡ gives 0 → rest ≡ failed (Total done)
+      walk-nothing e = split ∙ walk-idle M R n place done seed (drop (suc place) seeds) (same-given ∙ e)
 
-      pub walk-endless : stops ≡ none → rest ≡ failed (SeedEndless place)
-      unfolding ending
-      walk-endless e = refused (SeedEndless place) (by-stop ∙ rw e)
-
-      pub walk-next : (m : ℕ) → stops ≡ some m → 0 < m → rest ≡ after (slicesOf M m seed) (walk M R n (place + 1) (done + m) (drop (place + 1) seeds))
-      walk-next m e h =
-          rw add-one (ap (walk M R n place done) split
-          ∙ walk-gives M R n place done seed (drop (suc place) seeds) m (by-stop ∙ ap (ending place false (n - done)) e ∙ ending-closed place (n - done) m h) h)
+      pub walk-next : (m : ℕ) → given ≡ gives m → 0 < m → rest ≡ after (slicesOf M m seed) (walk M R n (place + 1) (done + m) (drop (place + 1) seeds))
+      walk-next m e h = rw add-one (split ∙ walk-gives M R n place done seed (drop (suc place) seeds) m (same-given ∙ e) h)

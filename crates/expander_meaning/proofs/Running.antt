@@ -1,16 +1,15 @@
--- The search for the stop of a seed, slice by slice.
---     Searched M stop limit seed t state     the stop does not show before slice t, whose state this is: what is found from there on decides
---     searched-start, searched-next          the first slice; one slice more
---     searched-hit, searched-end             the stop shows; the last slice shows none
---     sliced, shown, stepped                 the slice of a state, whether it shows the stop, and the step, as the code computes them
+-- The run of a seed, slice by slice, as the code goes through it.
+--     Counted M stop d seed t state     t slices come before the stop, and state is that of slice t: what comes before it from there on completes the number
+--     counted-start, counted-next       the first slice; one slice more
+--     counted-stop, counted-end         the stop shows; no slice is left to look at
+--     sliced, shown, stepped            the slice of a state, whether it shows the stop, and the step, as the code computes them
 -- Assumes nothing.
 use mathlib.Core.Path.{_≡_, refl, sym, ap, _∙_}
 use mathlib.Core.Bool.{Bool, true, false}
-use mathlib.Core.Option.{Option, none, some, Option·map}
-use mathlib.Core.List.{List}
+use mathlib.Core.List.{List, [], _∷_}
 use Prim.Native.Nat.{ℕ, suc, _+_, _-_, _≤_, _<_}
 use native.Mathlib.Omega.{arith}
-use lib.ListN.{take}
+use lib.ListN.{length, take}
 use Rattle.machine_settings.specs.declared.Settings.{Settings}
 use Rattle.machine_register.specs.Register.{stepOf}
 use Rattle.machine_register.specs.declared.Register.{Register}
@@ -18,43 +17,34 @@ use Rattle.machine_settings.specs.Machine.{registerOf, Machine, machine}
 use Rattle.machine_settings.proofs.Machine.{machine-slice, machine-step}
 use Rattle.machine_slices.specs.declared.TestSlice.{TestSlice}
 use Rattle.machine_slices.specs.Slices.{shows}
-use Rattle.expander_meaning.specs.Run.{firstStop}
 use Rattle.expander_meaning.specs.Sized.{Sized}
+use Rattle.expander_meaning.specs.Until.{untilStop}
+use Rattle.expander_meaning.proofs.Until.{until-more, until-here, until-none}
 
-abbrev later : ℕ → Option ℕ → Option ℕ
-later t o = Option·map (λ k. t + k) o
+pub record Counted (M : Machine) (stop : TestSlice) (d seed t state : ℕ) : Type 0 where
+  pub within : t ≤ d
+  pub count : t + length (untilStop M stop (d - t) state) ≡ length (untilStop M stop d seed)
 
-later-none : (o : Option ℕ) → o ≡ later 0 o
-later-none none = refl
-later-none (some k) = ap some (omega arith)
+module _ (M : Machine) (stop : TestSlice) (d seed : ℕ) where
+  pub counted-start : Counted M stop d seed 0 seed
+  counted-start = record { within = omega arith; count = (let e : d - 0 ≡ d = omega arith in rw e (omega arith)) }
 
-later-more : (t : ℕ) (o : Option ℕ) → later t (Option·map suc o) ≡ later (t + 1) o
-later-more t none = refl
-later-more t (some k) = ap some (omega arith)
+  module _ (t state : ℕ) (c : Counted M stop d seed t state) where
+    completed : untilStop M stop (d - t) state ≡ [] → t ≡ length (untilStop M stop d seed)
+    completed e = let z : t + 0 ≡ length (untilStop M stop d seed) = rw e at (c .count) in omega arith
 
-pub record Searched (M : Machine) (stop : TestSlice) (limit seed t state : ℕ) : Type 0 where
-  pub within : t ≤ limit
-  pub found : firstStop M stop (suc limit) seed ≡ later t (firstStop M stop (suc (limit - t)) state)
+    pub counted-stop : shows stop (M .slice state) ≡ true → t ≡ length (untilStop M stop d seed)
+    counted-stop h = completed (until-here M stop (d - t) state h)
 
-module _ (M : Machine) (stop : TestSlice) (limit seed : ℕ) where
-  pub searched-start : Searched M stop limit seed 0 seed
-  searched-start = record { within = omega arith; found = (let e : limit - 0 ≡ limit = omega arith in rw e (later-none (firstStop M stop (suc limit) seed))) }
+    pub counted-end : d ≤ t → t ≡ length (untilStop M stop d seed)
+    counted-end h = let z : d - t ≡ 0 = omega arith in completed (rw z (until-none M stop state))
 
-  module _ (t state : ℕ) (s : Searched M stop limit seed t state) where
-    pub searched-hit : shows stop (M .slice state) ≡ true → firstStop M stop (suc limit) seed ≡ some t
-    unfolding firstStop
-    searched-hit h = s .found ∙ rw (h, firstStop) (ap some (omega arith))
-
-    module _ (quiet : shows stop (M .slice state) ≡ false) where
-      pub searched-end : limit ≤ t → firstStop M stop (suc limit) seed ≡ none
-      unfolding firstStop
-      searched-end h = let z : limit - t ≡ 0 = omega (arith, s .within) in s .found ∙ rw (quiet, firstStop, z)
-
-      pub searched-next : t < limit → Searched M stop limit seed (t + 1) (M .step state)
-      unfolding firstStop
-      searched-next h =
-          let e : limit - t ≡ suc (limit - (t + 1)) = omega arith in
-          record { within = omega arith; found = s .found ∙ rw (quiet, firstStop, e) (later-more t (firstStop M stop (suc (limit - (t + 1))) (M .step state))) }
+    pub counted-next : t < d → shows stop (M .slice state) ≡ false → Counted M stop d seed (t + 1) (M .step state)
+    counted-next h q =
+        let z : d - t ≡ suc (d - (t + 1)) = omega arith in
+        let e : untilStop M stop (d - t) state ≡ M .slice state ∷ untilStop M stop (d - (t + 1)) (M .step state) = rw z (until-more M stop (d - (t + 1)) state q) in
+        let p : t + suc (length (untilStop M stop (d - (t + 1)) (M .step state))) ≡ length (untilStop M stop d seed) = rw e at (c .count) in
+        record { within = omega arith; count = omega arith }
 
 -- what the code computes on words
 module _ (g : Settings) (masks : List ℕ) (ready : Sized g masks) (s : ℕ) where

@@ -3,6 +3,7 @@ pub mod Tail
 pub mod Places
 pub mod Segments
 pub mod Windows
+pub mod Starts
 pub mod Limits
 pub mod Inversion
 pub mod Upright

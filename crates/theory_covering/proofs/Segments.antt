@@ -1,7 +1,7 @@
 -- The windows of a segment of a set are those of the segment by itself: so a set may be cut segment by segment.
 --     Segment R n from to stop closing     between the places from and to of a set of n slices no window crosses an end, the stop is live, and a window that ends there closes with it where `closing` says so
 --     segment-ok                           a window from within the segment passes exactly where it passes in the slices up to the segment's end, under the segment's own rules
---     whole-segment                        under document 01's rules the whole set is one segment
+--     whole-segment                        under the rules of a set the whole set is one segment
 -- Assumes nothing.
 use mathlib.Core.Path.{_≡_, refl, sym, ap, _∙_}
 use mathlib.Core.Logic.{⊎-elim}
@@ -11,7 +11,7 @@ use Prim.Native.Nat.{ℕ, zero, suc, _+_, _-_, _≤_, _<_, min}
 use native.Mathlib.Omega.{arith}
 use lib.ListN.{length, take, drop}
 use lib.Seq.{length-take-le, take-take}
-use borrow.Author.Tests.{ne-eqb, lt-ltb, le-ltb}
+use borrow.Author.Tests.{eq-eqb, ne-eqb, lt-ltb, le-ltb}
 use Rattle.words_bounded.proofs.Tests.{lt-or-le}
 use Rattle.machine_settings.specs.declared.Settings.{Settings}
 use Rattle.machine_settings.specs.Machine.{Machine}
@@ -79,6 +79,6 @@ module _ (M : Machine) (R : Rules) (g : Settings) (set : List TestSlice) (from t
         go true e = rw (← (placed-same k), e) (ap found (seed-same k e))
         go false e = rw (← (placed-same k), e)
 
-pub whole-segment : (g : Settings) (stop : TestSlice) (n : ℕ) → Segment (rules g stop) n 0 n stop true
+pub whole-segment : (g : Settings) (stop : TestSlice) (n : ℕ) → Segment (rules g stop) n 0 n stop false
 unfolding closes
-whole-segment g stop n = record { within = omega arith; far = λ i a b. far-segment g stop true n i; live = λ i a b. refl; closed = refl }
+whole-segment g stop n = record { within = omega arith; far = λ i a b. far-segment g stop false n i; live = λ i a b. refl; closed = rw (eq-eqb n n refl) }

@@ -3,7 +3,7 @@
 --     tails                    the rest of a covered part is covered
 --     set-bounds               the windows go forward and stay within the set
 --     set-windows              the windows go forward, stay within the set, and are kept by suffixes
---     rules-steady             document 01's rules have one stop
+--     rules-steady             the rules of a set have one stop
 -- Assumes nothing.
 use mathlib.Core.Path.{_≡_, refl}
 use mathlib.Core.Bool.{Bool, true}

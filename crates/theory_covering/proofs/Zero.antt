@@ -1,4 +1,5 @@
--- The state 0 is a lawful state; its slices are all alike, so it covers nothing in the base (document 01, "Register and chains"): zero-covers-nothing.
+-- The state 0 is a lawful state, and its slices are all alike (document 01, "Register and chains"; document 02, R-5).
+--     zero-covers-nothing     so it covers no window that closes with its stop: none given singly, and of a set's windows at most the last
 -- Assumes nothing.
 use mathlib.Core.Path.{_≡_}
 use mathlib.Core.Bool.{true, not}

@@ -1,9 +1,9 @@
 -- Covering (document 01, "Covering and cutting"). A window is a list of test slices.
---     fits M stop closing w s      the slices of the state s agree with the window w, and the slice after it shows the stop
+--     fits M stop closing w s      the slices of the state s agree with the window w, and the slice after it, where it closes, shows the stop
 --     quiet M stop m s             none of the slices 0 .. m - 1 of s shows the stop
 --     covers M stop closing w s    s covers the window
 --     seedOf M stop closing w      the seed of the window: the lowest covering state, or none
--- closing: whether the slice after the window must show the stop. In the base it always must.
+-- closing: whether the slice after the window must show the stop. It must for a window given singly and for every window of a set but the one that ends it (document 02, R-5).
 use mathlib.Core.Bool.{Bool, true, not, _&&_, _||_}
 use mathlib.Core.Option.{Option}
 use mathlib.Core.List.{List, [], _∷_}
@@ -23,7 +23,7 @@ unfoldable pub quiet : Machine → TestSlice → ℕ → ℕ → Bool
 quiet M stop zero s = true
 quiet M stop (suc m) s = not (shows stop (M .slice s)) && quiet M stop m (M .step s)
 
--- Its slices 0 to m - 1 agree with every specified bit of the window and don't show the stop slice, and its slice m does.
+-- Its slices 0 to m - 1 agree with every specified bit of the window and don't show the stop slice, and its slice m does, where the window closes.
 unfoldable pub covers : Machine → TestSlice → Bool → List TestSlice → ℕ → Bool
 covers M stop closing w s = fits M stop closing w s && quiet M stop (length w) s
 

@@ -2,9 +2,9 @@
 --     Rules          limit: the most slices of a window; edges: places that no window crosses; live: the stop slice of a window that starts at a place; openEnd: the window that ends the set need not close with its stop
 --     Raised small large     the rules `large` are the rules `small` with a limit that is not smaller (document 02, R-3)
 --     segmentRules g stop closing   the rules of a segment under a call's settings: no edge within, one stop slice, and a window that ends the segment closes with its stop where `closing` says so
---     rules g stop   document 01's rules: the set is one segment, and every seed, the last included, ends in its stop
+--     rules g stop   the rules of a set: it is one segment, and its last window need not close with its stop (document 02, R-5)
 use mathlib.Core.Path.{_≡_}
-use mathlib.Core.Bool.{Bool, true, not}
+use mathlib.Core.Bool.{Bool, false, not}
 use mathlib.Core.List.{List, []}
 use Prim.Native.Nat.{ℕ, _≤_}
 use Rattle.machine_settings.specs.declared.Settings.{Settings}
@@ -26,4 +26,4 @@ abbrev pub segmentRules : Settings → TestSlice → Bool → Rules
 segmentRules g stop closing = record { limit = g .limit; edges = []; live = λ _. stop; openEnd = not closing }
 
 abbrev pub rules : Settings → TestSlice → Rules
-rules g stop = segmentRules g stop true
+rules g stop = segmentRules g stop false

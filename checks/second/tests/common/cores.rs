@@ -78,10 +78,19 @@ impl Core {
         answer.map(|_| out)
     }
 
+    /// True if the state covers the window and closes it with its stop.
     pub fn covers(&self, limit: u64, spec: &[u64], bits: &[u64], state: u64) -> bool {
         let (invert, masks, stop) = (self.invert, &self.masks, self.stop);
         covers(
-            self.cells, self.taps, limit, invert, masks, stop.0, stop.1, spec, bits, state,
+            self.cells, self.taps, limit, invert, masks, stop.0, stop.1, spec, bits, state, true,
+        )
+    }
+
+    /// True if the state covers the window, as one that ends a set.
+    pub fn covers_last(&self, limit: u64, spec: &[u64], bits: &[u64], state: u64) -> bool {
+        let (invert, masks, stop) = (self.invert, &self.masks, self.stop);
+        covers(
+            self.cells, self.taps, limit, invert, masks, stop.0, stop.1, spec, bits, state, false,
         )
     }
 
@@ -101,10 +110,16 @@ impl Core {
         None
     }
 
-    /// The number of slices in each seed's window.
-    pub fn lengths(&self, seeds: &[u64]) -> Vec<usize> {
+    /// The number of slices in each seed's window, for the list of a set of `total` slices:
+    /// up to its stop, and up to the end of the set for the last seed.
+    pub fn lengths(&self, total: usize, seeds: &[u64]) -> Vec<usize> {
+        let (last, others) = seeds.split_last().expect("a list with a seed");
         let length = |&seed| self.first_stop(seed, 300).expect("a seed that stops");
-        seeds.iter().map(length).collect()
+        let mut lengths: Vec<usize> = others.iter().map(length).collect();
+        let left = total - lengths.iter().sum::<usize>();
+        assert!(left > 0 && self.first_stop(*last, left - 1).is_none());
+        lengths.push(left);
+        lengths
     }
 }
 

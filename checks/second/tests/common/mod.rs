@@ -3,6 +3,7 @@
 #![allow(dead_code)]
 
 pub mod cores;
+pub mod every;
 pub mod texts;
 
 use second::{slice_of, Refused};

@@ -11,13 +11,13 @@ use Rattle.expander_writing.proofs.write_run.Statement.{statement}
 use Rattle.expander_writing.proofs.write_run.Tie as tie
 
 abbrev Inv-loop : tie.InvT-loop
-Inv-loop settings register masks stop seed at out₀ state₀ i₀ out state i = Writes (machine settings masks) stop seed at out₀ i state out
+Inv-loop settings register masks stop seed at slices out₀ state₀ i₀ out state i = Writes (machine settings masks) stop seed at slices out₀ i state out
 
 abbrev μ-loop : tie.MeasureT-loop
-μ-loop settings register masks stop seed at out₀ state₀ i₀ out state i = length out₀ - i
+μ-loop settings register masks stop seed at slices out₀ state₀ i₀ out state i = slices - i
 
 loop-holds : tie.Need-loop-holds Inv-loop μ-loop
-loop-holds c = writes-start _ _ _ _ _ (c .before .before .pre .1 .0)
+loop-holds c = writes-start _ _ _ _ _ _ (c .before .before .pre .1 .0 .0)
 
 slice-write-out : tie.Need-slice-write-out Inv-loop μ-loop
 slice-write-out c = omega (arith, c .before .before .before .before .loop .inv .size)
@@ -35,7 +35,7 @@ loop-again c =
     let a = p .args in
     let quiet = shown (a .settings) (a .masks .now) (p .pre .0) (l .state) (a .stop) _ _ (c .before .before .before .slice .ensures) (c .before .before .shows .ensures) ∙ c .before .if1 .left in
     rw (stepped (a .settings) (a .masks .now) (p .pre .0) (l .state) (a .register) (p .pre .1 .1) (c .step .result) (c .step .ensures), sliced (a .settings) (a .masks .now) (p .pre .0) (l .state) (c .before .before .before .slice .result) (c .before .before .before .slice .ensures))
-    at (writes-next _ _ _ _ _ (l .i) (l .state) (l .out) (l .inv) (omega (arith, l .inv .size)) quiet)
+    at (writes-next _ _ _ _ _ _ (l .i) (l .state) (l .out) (l .inv) (omega arith) quiet)
 
 same-length : tie.Need-same-length Inv-loop μ-loop
 same-length c = c .before .loop .inv .size
@@ -43,7 +43,7 @@ same-length c = c .before .loop .inv .size
 returns : tie.Need-returns Inv-loop μ-loop
 returns c =
     let l = c .before .loop in
-    writes-end _ _ _ _ _ (l .i) (l .state) (l .out) (l .inv) (omega (arith, l .inv .size))
+    writes-end _ _ _ _ _ _ (l .i) (l .state) (l .out) (l .inv) (omega arith)
 
 same-length-2 : tie.Need-same-length-2 Inv-loop μ-loop
 same-length-2 c = c .before .before .before .before .loop .inv .size
@@ -53,7 +53,7 @@ returns-2 c =
     let l = c .before .before .before .before .loop in
     let p = c .before .before .before .before .before .before .before in
     let a = p .args in
-    writes-stop _ _ _ _ _ (l .i) (l .state) (l .out) (l .inv) (shown (a .settings) (a .masks .now) (p .pre .0) (l .state) (a .stop) _ _ (c .before .before .slice .ensures) (c .before .shows .ensures) ∙ c .if1 .taken)
+    writes-stop _ _ _ _ _ _ (l .i) (l .state) (l .out) (l .inv) (shown (a .settings) (a .masks .now) (p .pre .0) (l .state) (a .stop) _ _ (c .before .before .slice .ensures) (c .before .shows .ensures) ∙ c .if1 .taken)
 
 pub write-run-spec : {M : Type 1} → statement M
 write-run-spec =

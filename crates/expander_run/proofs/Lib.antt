@@ -1,0 +1,3 @@
+-- What is seen of a seed in the slices that are looked at, and the proofs of the functions.
+pub mod Looking
+pub mod Told

@@ -1,0 +1,2 @@
+-- What one seed delivers, as the code's answer.
+pub mod Told

@@ -1,2 +1,0 @@
--- The slices before a stop.
-pub mod Until
