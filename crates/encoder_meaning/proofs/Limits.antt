@@ -4,7 +4,7 @@
 --     larger-encoding     of its encodings in the same space, under any rules whose stop is steady between edges
 --     same-answer         an answer is no worse than itself
 --     larger-faults       causes 1 to 5 do not tell two limits of 1 to 256 apart
---     larger-rules        the encodings of a set under document 01's rules
+--     larger-rules        the encodings of a set under its rules
 --     larger-set          of the whole call with the stop slice handed in
 -- Assumes nothing.
 use mathlib.Core.Path.{_≡_, refl, sym, ap, _∙_}

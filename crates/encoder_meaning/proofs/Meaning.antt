@@ -22,6 +22,7 @@ use Rattle.theory_cutting.proofs.Parts.{covering-length, covering-cutting}
 use Rattle.theory_covering.specs.Rules.{Rules}
 use Rattle.theory_covering.specs.Windows.{CoveredBy, ok, Steady}
 use Rattle.theory_covering.proofs.Windows.{set-windows}
+use Rattle.theory_covering.proofs.Starts.{starts-closed}
 use Rattle.expander_meaning.specs.Expanding.{expanding}
 use Rattle.expander_meaning.proofs.Agreeing.{agree-length, agree-at}
 use Rattle.expander_meaning.proofs.Walks.{expand-covering}
@@ -48,6 +49,8 @@ module _ (M : Machine) (R : Rules) (set : List TestSlice) where
     upto = s .upto;
     cuts = cuts-windows M R set (s .cuts);
     longest = λ b es c. s .longest b es (windows-cuts M R set c);
+    closed = starts-closed M set R .cut (s .short) .0 (cuts-windows M R set (s .cuts));
+    longestClosed = λ b es h c. s .longest b es (windows-cuts M R set (starts-closed M set R .cut h .1 c));
   }
 
   module _ (out : List ℕ) where

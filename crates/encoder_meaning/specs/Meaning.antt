@@ -1,7 +1,7 @@
 -- What the answer of the encoding of a set means (document 01, "Covering and cutting"; demands 2 and 3). These name neither the greedy cutting nor the seed of a window.
 --     Delivers set expanded      an expanding is accepted where there is space, with the set's total, and slice i agrees with test slice i; `expanded` gives its outcome for a lent buffer
 --     Shortest M R set seeds     the seeds cover a cutting of the set, and no list of states that covers any cutting of it is shorter; after any number of seeds no other list has delivered more
---     Uncut M R set g            the set has no cutting, and its longest start that can be cut has g slices
+--     Uncut M R set g            the set has no cutting, and its longest start that can be cut has g slices: into windows that all close with their stop, for none of them ends the set
 --     Listed M R set n           a shortest list of the set has n seeds
 --     Meaning M R set out o      what the outcome o says of the set
 --     SetMeaning .. o            what the outcome o of the whole call says, with the stop slice handed in
@@ -18,6 +18,7 @@ use Rattle.machine_slices.specs.declared.TestSlice.{TestSlice}
 use Rattle.theory_cutting.specs.Cutting.{Cutting, Covering, delivered}
 use Rattle.theory_covering.specs.Rules.{Rules, rules}
 use Rattle.theory_covering.specs.Windows.{CoveredBy, Window}
+use Rattle.theory_covering.specs.Starts.{closedRules}
 use Rattle.machine_settings.specs.declared.Settings.{Settings}
 use Rattle.machine_settings.specs.Machine.{Machine, machine}
 use Rattle.machine_slices.specs.Slices.{agrees, paired}
@@ -44,6 +45,9 @@ pub record Uncut (M : Machine) (R : Rules) (set : List TestSlice) (g : ℕ) : Ty
   pub upto : List ℕ
   pub cuts : Cutting (Window M R set) 0 upto g
   pub longest : (b : ℕ) (es : List ℕ) → Cutting (Window M R set) 0 es b → b ≤ g
+  -- document 02, R-5: only starts whose windows all close count
+  pub closed : Cutting (Window M (closedRules R) set) 0 upto g
+  pub longestClosed : (b : ℕ) (es : List ℕ) → b < length set → Cutting (Window M (closedRules R) set) 0 es b → b ≤ g
 
 pub record Listed (M : Machine) (R : Rules) (set : List TestSlice) (n : ℕ) : Type 0 where
   pub seeds : List ℕ

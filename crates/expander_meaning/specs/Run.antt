@@ -1,8 +1,8 @@
--- The run of one seed (document 01, "Register and chains", and causes 10, 11 and 12 of its refusal sheet).
+-- The run of one seed (document 01, "Register and chains", and causes 10, 11 and 12 of its refusal sheet; document 02, R-5: the last seed).
 --     slicesOf M m s              the slices 0 .. m - 1 of the state s
 --     firstStop M stop d s        the first of the slices 0 .. d - 1 of s that shows the stop, or none
 --     Given                       a seed delivers so many slices, or is refused
---     ending place last left o    what a seed at that place delivers whose stop first shows at o. last: it is a last seed that need not close; left: the slices still to come. In the base last is false
+--     ending place last left o    what a seed at that place delivers whose stop first shows at o. last: it is a last seed that need not close; left: the slices still to come
 --     delivers M R stop place last left s     what the seed s at that place delivers
 use mathlib.Core.Bool.{Bool, true, false, _&&_}
 use mathlib.Core.Option.{Option, none, some, Option·map}

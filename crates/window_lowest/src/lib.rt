@@ -50,14 +50,8 @@ pub fn lowest_covering(
     if !forced.some {
         return Found::Nothing;
     }
-    search_lowest::lowest_clear(
-        sought.pattern,
-        stops,
-        slices,
-        forced.lowest,
-        kept,
-        forced.free,
-    )
+    let Space { lowest, free, .. } = forced;
+    search_lowest::lowest_clear(sought.pattern, stops, slices, lowest, kept, free)
 }
 
 // The lowest state that covers a window, its bits entered anew.
