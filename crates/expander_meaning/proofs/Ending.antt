@@ -12,15 +12,15 @@ use mathlib.Core.Bool.{Bool, true, false, _&&_}
 use mathlib.Core.Option.{none, some}
 use Prim.Native.Nat.{ℕ, zero, suc, _≤_, _<_, min}
 use native.Mathlib.Omega.{arith}
-use lib.Dec.{ltb, leb}
+use lib.Dec.{leb}
 use lib.ListN.{length}
-use borrow.Author.Tests.{lt-ltb, le-ltb, ltb-true, leb-true}
+use borrow.Author.Tests.{lt-ltb, le-ltb, leb-true}
 use Rattle.words_bounded.proofs.Tests.{both, lt-or-le}
 use Rattle.refusal_causes.specs.declared.Cause.the-variants.{SeedBeyond, SeedAtStop, SeedEndless}
 use Rattle.machine_settings.specs.Machine.{Machine}
 use Rattle.machine_slices.specs.declared.TestSlice.{TestSlice}
 use Rattle.theory_covering.specs.Rules.{Rules}
-use Rattle.expander_meaning.specs.Run.{Given, slicesOf, firstStop, gives, fails, ending, delivers}
+use Rattle.expander_meaning.specs.Run.{firstStop, gives, fails, ending, delivers}
 use Rattle.expander_meaning.specs.Until.{untilStop}
 use Rattle.expander_meaning.proofs.Until.{until-front, until-stop, at-within, at-never}
 

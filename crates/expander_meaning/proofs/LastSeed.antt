@@ -1,12 +1,12 @@
 -- The last seed of a list, where it need not close with its stop.
 --     last-seed     the law, for all rules with an open end
 -- Assumes nothing.
-use mathlib.Core.Path.{_≡_, refl, sym, ap, _∙_}
+use mathlib.Core.Path.{_≡_, sym, ap, _∙_}
 use mathlib.Core.Logic.{⊎-elim}
 use mathlib.Core.Bool.{Bool, true, false, _&&_, and-false}
-use mathlib.Core.Option.{Option, none, some}
-use mathlib.Core.List.{List, [], _∷_, _++_, append-nil}
-use Prim.Native.Nat.{ℕ, suc, _+_, _-_, _≤_, _<_, min}
+use mathlib.Core.Option.{none, some}
+use mathlib.Core.List.{[], _∷_, append-nil}
+use Prim.Native.Nat.{ℕ, suc, _-_, _≤_, _<_, min}
 use native.Mathlib.Omega.{arith}
 use lib.Dec.{leb}
 use lib.ListN.{length}
@@ -16,7 +16,7 @@ use Rattle.machine_settings.specs.Machine.{Machine}
 use Rattle.machine_slices.specs.declared.TestSlice.{TestSlice}
 use Rattle.machine_slices.specs.Slices.{shows}
 use Rattle.theory_covering.specs.Rules.{Rules}
-use Rattle.expander_meaning.specs.Run.{slicesOf, firstStop, gives, fails, delivers}
+use Rattle.expander_meaning.specs.Run.{slicesOf, firstStop, gives, delivers}
 use Rattle.expander_meaning.specs.Until.{untilStop}
 use Rattle.expander_meaning.specs.Expanding.{ran, after, isLast, walk}
 use Rattle.expander_meaning.specs.LastSeed.{LastSeed}

@@ -4,7 +4,7 @@
 --     counted-stop, counted-end         the stop shows; no slice is left to look at
 --     sliced, shown, stepped            the slice of a state, whether it shows the stop, and the step, as the code computes them
 -- Assumes nothing.
-use mathlib.Core.Path.{_≡_, refl, sym, ap, _∙_}
+use mathlib.Core.Path.{_≡_, sym, ap, _∙_}
 use mathlib.Core.Bool.{Bool, true, false}
 use mathlib.Core.List.{List, [], _∷_}
 use Prim.Native.Nat.{ℕ, suc, _+_, _-_, _≤_, _<_}

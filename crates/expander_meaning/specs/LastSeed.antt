@@ -11,7 +11,7 @@ use Rattle.machine_slices.specs.Slices.{shows}
 use Rattle.theory_covering.specs.Rules.{Rules}
 use Rattle.expander_meaning.specs.Run.{slicesOf, firstStop}
 use Rattle.expander_meaning.specs.Until.{untilStop}
-use Rattle.expander_meaning.specs.Expanding.{Walk, ran, failed, walk}
+use Rattle.expander_meaning.specs.Expanding.{ran, failed, walk}
 
 pub record LastSeed (M : Machine) (R : Rules) (n place done s : ℕ) : Type 0 where
   -- 10 and 11 come first, as for every seed

@@ -24,7 +24,7 @@ use Rattle.machine_slices.specs.declared.TestSlice.{TestSlice}
 use Rattle.theory_covering.specs.Rules.{Rules, rules}
 use Rattle.expander_meaning.specs.Run.{delivers}
 use Rattle.expander_meaning.specs.Until.{untilStop}
-use Rattle.expander_meaning.proofs.Until.{until-length, until-front}
+use Rattle.expander_meaning.proofs.Until.{until-front}
 use Rattle.expander_meaning.proofs.Ending.{before, beyond-states, gives-none, gives-open, gives-closed, gives-endless}
 use Rattle.expander_run.specs.Told.{told, lookedAt}
 

@@ -2,8 +2,8 @@
 --     covering-forward  windows go forward: a row does not end before its start
 --     starts-closed     the law
 -- Assumes nothing.
-use mathlib.Core.Path.{_≡_, sym}
-use mathlib.Core.Bool.{true, and-false}
+use mathlib.Core.Path.{_≡_}
+use mathlib.Core.Bool.{and-false}
 use mathlib.Core.List.{List}
 use Prim.Native.Nat.{ℕ, _≤_, _<_}
 use native.Mathlib.Omega.{arith}

@@ -2,7 +2,6 @@
 use mathlib.Core.Path.{_∙_}
 use Prim.Native.Nat.{_-_}
 use native.Mathlib.Omega.{arith}
-use lib.ListN.{length}
 use borrow.Author.Needs.{needs}
 use Rattle.expander_meaning.proofs.Running.{sliced, shown, stepped}
 use Rattle.machine_settings.specs.Machine.{machine}
