@@ -17,7 +17,7 @@ extern "C" {
 #endif
 
 /* The version of this header and of the Rust package; docs/library.md says what stays from one to the next. */
-#define SEEDS_VERSION "0.6.0"
+#define SEEDS_VERSION "0.7.0"
 
 /* Most cells of a register; most chains; the greatest limit of a window, and the greatest depth; most slices of a set, and most
  * seeds of a list. */
@@ -46,13 +46,13 @@ enum seeds_cause {
     SEEDS_STOP_SLICE = 5,    /* the stop slice */
     SEEDS_ALL_TAKEN = 6,     /* the fully specified slices take up all patterns */
     SEEDS_NO_SEED = 7,       /* no state covers the window */
-    SEEDS_NO_CUTTING = 8,    /* the set can't be cut */
+    SEEDS_NO_CUTTING = 8,    /* the set can't be cut; the value counts slices in windows that all close with the stop */
     SEEDS_NO_SPACE = 9,      /* the lent buffer is too short */
     SEEDS_SEED_BEYOND = 10,  /* a seed with a bit at or above cells */
     SEEDS_SEED_AT_STOP = 11, /* a seed whose slice 0 shows the stop */
-    SEEDS_SEED_ENDLESS = 12, /* a seed with no stop in slices 0 to the limit */
+    SEEDS_SEED_ENDLESS = 12, /* a seed with no stop in slices 0 to the limit; the last one only where more than that are left */
     SEEDS_LINE = 13,         /* a line out of form or out of order, or text that ends early */
-    SEEDS_TOTAL = 14         /* the expanded total differs from slices */
+    SEEDS_TOTAL = 14         /* the expanded total differs from slices, or nothing is left for the last seed */
 };
 
 /* A register, by its number of cells and its taps, with the settings of a call. Make it by seeds_settings_of: a version with
@@ -160,13 +160,18 @@ seeds_stop_answer seeds_stop(size_t chains,
                              const uint64_t *specified, size_t specified_len,
                              const uint64_t *bits, size_t bits_len);
 
-/* The slices of a seed list. */
+/* The slices of a seed list. Each seed but the last delivers the slices before its stop. The last one ends when `slices` are
+ * delivered, whatever its next slice shows; it need not have a stop. Where its stop comes before, or nothing is left for
+ * it, the answer is SEEDS_TOTAL with the total found; where more slices than the limit are left and it has no stop in slices 0
+ * to the limit, SEEDS_SEED_ENDLESS. */
 seeds_answer seeds_expand(seeds_settings settings, const uint64_t *masks, size_t masks_len,
                           uint64_t stop_specified, uint64_t stop_bits,
                           size_t slices, const uint64_t *seeds, size_t seeds_len,
                           uint64_t *out, size_t out_len);
 
-/* The lowest state that covers a window, and the fewest seeds of a set. */
+/* The lowest state that covers a window, which closes with its stop; and the fewest seeds of a set. Every window of a set but
+ * the one that ends it closes with its stop. That one is covered when its slices agree and none shows the stop: its seed is the
+ * lowest such state, 0 too. */
 seeds_seed_answer seeds_window(seeds_settings settings, const uint64_t *masks, size_t masks_len,
                                uint64_t stop_specified, uint64_t stop_bits,
                                const uint64_t *specified, size_t specified_len,
@@ -183,7 +188,8 @@ seeds_cubes_answer seeds_encode_cubes(seeds_settings settings, const uint64_t *m
                                       uint64_t *out, size_t out_len);
 
 /* The text of a sheet to its seed list, and of a seed list to its slice lines. The limit of a window is the number of the
- * text's line window=, or 256 where it has no such line; the inverted chains are those of its line invert=, or none. */
+ * text's line window=, or 256 where it has no such line; the inverted chains are those of its line invert=, or none. Sets and
+ * lists are encoded and expanded as above. */
 seeds_text_answer seeds_encode_text(const uint8_t *sheet, size_t sheet_len, uint8_t *out, size_t out_len);
 seeds_text_answer seeds_expand_text(const uint8_t *list, size_t list_len, uint8_t *out, size_t out_len);
 

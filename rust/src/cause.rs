@@ -33,9 +33,9 @@ const SHEET: [(Cause, &str); 14] = [
     (Cause::NoSpace, "the lent buffer is too short"),
     (Cause::SeedBeyond, "a seed with a bit at or above cells"),
     (Cause::SeedAtStop, "a seed whose slice 0 shows the stop"),
-    (Cause::SeedEndless, "a seed with no stop in slices 0 to the window limit"),
+    (Cause::SeedEndless, "a seed with no stop in slices 0 to the window limit; the last seed only where more slices than the limit are left"),
     (Cause::Line, "a line out of form or out of order, or text that ends early"),
-    (Cause::Total, "the expanded total differs from slices"),
+    (Cause::Total, "the expanded total differs from slices, or nothing is left for the last seed"),
 ];
 
 impl Cause {

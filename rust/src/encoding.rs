@@ -20,7 +20,7 @@ pub fn stop_slice(chains: usize, set: TestSlices) -> Result<TestSlice, Refusal> 
     })
 }
 
-/// The lowest state that covers a window. Causes 1 to 5, then 7.
+/// The lowest state that covers a window, which closes with its stop. Causes 1 to 5, then 7.
 pub fn window_seed(machine: Machine, stop: TestSlice, window: TestSlices) -> Result<u64, Refusal> {
     let told = entries::window(machine, stop, window);
     Refusal::unless_accepted(told.number, told.value)?;
@@ -29,6 +29,8 @@ pub fn window_seed(machine: Machine, stop: TestSlice, window: TestSlices) -> Res
 
 /// The fewest seeds of a set with its stop slice, written into `out`; how many. Causes 1 to 5, then 8, then 9.
 /// As many entries as the set has slices are always enough.
+///
+/// Every window but the one that ends the set closes with its stop. That one is covered when its slices agree and none shows the stop: its seed is the lowest such state, 0 too. The value of 8 counts slices in windows that all close.
 ///
 /// The buffer is not one of the lists:
 /// ```compile_fail
@@ -50,7 +52,7 @@ pub fn encode_set(
     Ok(told.value)
 }
 
-/// The stop slice of a set that comes as cubes of `depth` slices, and its fewest seeds, written into `out`. Causes 1 to 4, then 6, 8, then 9.
+/// The stop slice of a set that comes as cubes of `depth` slices, and its fewest seeds, written into `out`. Causes 1 to 4, then 6, 8, then 9. The windows are those of [`encode_set`].
 pub fn encode_cubes(
     machine: Machine,
     depth: usize,

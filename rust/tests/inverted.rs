@@ -108,12 +108,11 @@ fn a_set() {
         specified: &[1, 1],
         bits: &[1, 0],
     };
-    let none = refusal(8, 1);
-    let cut: [Result<&[u64], Refusal>; 4] = [none, Ok(&[2, 3]), none, Ok(&[2])];
+    let cut: [&[u64]; 4] = [&[1], &[4], &[7], &[2]];
     for (mask, seeds) in (0..).zip(cut) {
         let mut out = [0; 2];
         let written = encode_set(inverted(mask), STOP, set, &mut out);
-        assert_eq!(written.map(|count| &out[..count]), seeds);
+        assert_eq!(written.map(|count| &out[..count]), Ok(seeds));
     }
 }
 
@@ -121,7 +120,7 @@ fn a_set() {
 #[test]
 fn the_cubes_of_document_01() {
     let stop = stop_slice(2, CUBES).expect("a stop slice");
-    let cut: [&[u64]; 4] = [&[3, 3], &[2, 6, 2], &[5, 1], &[4, 2, 6]];
+    let cut: [&[u64]; 4] = [&[3, 3], &[2, 6, 0], &[5, 1], &[4, 0]];
     for (mask, wanted) in (0..).zip(cut) {
         let (mut seeds, mut slices) = ([0; 4], [0; 4]);
         let encoded = Encoded {
@@ -140,12 +139,14 @@ fn the_cubes_of_document_01() {
     }
 }
 
-/// Document 01's seeds 6 and 0.
+/// Document 01's seeds 6 and 0. Seed 0 has no stop, or shows it at once: as the last seed it is accepted or refused by 11.
 #[test]
 fn seeds_at_the_stop_and_without_one() {
-    let of = |mask, total, seed| expand(inverted(mask), STOP, total, &[seed], &mut [0; 4]);
-    assert_eq!([of(0, 1, 0), of(2, 1, 0)], [refusal(12, 0), refusal(11, 0)]);
-    assert_eq!([of(0, 3, 6), of(2, 3, 6)], [refusal(11, 0), Ok(3)]);
+    let of = |mask, total, seeds: &[u64]| expand(inverted(mask), STOP, total, seeds, &mut [0; 4]);
+    let followed = [of(0, 2, &[0, 7]), of(2, 2, &[0, 7])];
+    assert_eq!(followed, [refusal(12, 0), refusal(11, 0)]);
+    assert_eq!([of(0, 1, &[0]), of(2, 1, &[0])], [Ok(1), refusal(11, 0)]);
+    assert_eq!([of(0, 3, &[6]), of(2, 3, &[6])], [refusal(11, 0), Ok(3)]);
 }
 
 #[test]

@@ -206,8 +206,8 @@ fn sets_without_stop_slice_seed_or_cutting() {
     };
     assert_eq!(window_seed(R, STOP, alone), refusal(7, 0));
     let uncut = TestSlices {
-        specified: &[1, 1],
-        bits: &[1, 0],
+        specified: &[1, 3, 3],
+        bits: &[1, 0, 1],
     };
     refused(0, 8, 1, |out| encode_set(R, STOP, uncut, out));
     refused(9, 8, 1, |out| encode_set(R, STOP, uncut, out));
@@ -230,8 +230,9 @@ fn buffers_too_short() {
 fn seeds() {
     refused(9, 10, 1, |out| expand(R, STOP, 4, &[3, 8], out));
     refused(9, 11, 0, |out| expand(R, STOP, 4, &[6, 3], out));
-    refused(9, 12, 1, |out| expand(R, STOP, 4, &[3, 0], out));
+    refused(9, 12, 1, |out| expand(R, STOP, 6, &[3, 0, 3], out));
     refused(9, 14, 4, |out| expand(R, STOP, 5, &[3, 3], out));
+    refused(9, 14, 2, |out| expand(R, STOP, 2, &[3, 3], out));
     refused(9, 14, 0, |out| expand(R, STOP, 5, &[], out));
 }
 

@@ -78,7 +78,7 @@ fn the_set_of_document_01_as_a_cube() {
         specified: 1,
         bits: 0,
     };
-    for (limit, seeds) in [(1, vec![1, 7]), (2, vec![3]), (256, vec![3])] {
+    for (limit, seeds) in [(1, vec![1, 5]), (2, vec![3]), (256, vec![3])] {
         let mut out = [0; 2];
         let encoded = Encoded {
             stop,
@@ -106,10 +106,10 @@ fn lengths() {
     }
 }
 
-/// The states of R whose first stop is at slice 1, 2, 3 and 4 are 7, 3, 5 and 2.
+/// The states of R whose first stop is at slice 1, 2 and 3 are 7, 3 and 5, that of state 2 is at 4, and state 0 has none: it is the last seed.
 #[test]
 fn four_slices_of_x() {
-    let cut: [&[u64]; 4] = [&[7, 7, 7, 7], &[3, 3], &[5, 7], &[2]];
+    let cut: [&[u64]; 4] = [&[7, 7, 7, 0], &[3, 0], &[5, 0], &[0]];
     for (limit, seeds) in (1..).zip(cut) {
         assert_eq!(seeds_of(limit, all_x(4)), Ok(seeds.to_vec()));
         let total = expand(limited(limit), STOP, 4, seeds, &mut [0; 4]);

@@ -45,7 +45,7 @@ pub fn head(sheet: &Sheet) -> Vec<String> {
 /// What is said where a seed is loaded.
 pub fn loaded(window: &Window) -> String {
     let first = window.start + 1;
-    let last = window.start + window.moments.len() - 1;
+    let last = window.start + window.delivered();
     let tests = match last - first {
         0 => format!("slice {first}"),
         1 => format!("slices {first} and {last}"),

@@ -1,4 +1,4 @@
-// The picture of a small sheet: how each window runs to its stop slice, one row for a seed, one column for a slice.
+// The picture of a small sheet: how each window runs to its stop slice, the last one to the end of the slices; one row for a seed, one column for a slice.
 // `guide picture examples/sheet.txt` draws docs/window.svg.
 
 use crate::captions;
@@ -12,7 +12,7 @@ use std::path::Path;
 const WIDEST: usize = 12;
 const LONGEST: usize = 8;
 
-const TITLE: &str = "How a window runs to its stop slice";
+const TITLE: &str = "How a window runs to its stop slice, the last one to the end of the slices";
 
 struct Picture<'a> {
     sheet: &'a Sheet,
@@ -89,7 +89,7 @@ impl Picture<'_> {
     fn column(&mut self, row: f64, window: &Window, place: usize) {
         let moment = &window.moments[place];
         let test = format!("test slice {}", window.start + place + 1);
-        let (look, held, verdict) = match place + 1 == window.moments.len() {
+        let (look, held, verdict) = match place == window.delivered() {
             true => (STOP, "stop slice", "shows the stop"),
             false => (AGREED, test.as_str(), "agrees, is not the stop"),
         };
@@ -136,7 +136,8 @@ impl Picture<'_> {
         }
         if let Some(window) = before {
             let place = (self.layout.middle(window.moments.len() - 1), row - 14.0);
-            self.drawing.centred(place, STOP, "no seed is left");
+            self.drawing
+                .centred(place, STOP, "every slice is delivered");
         }
     }
 }

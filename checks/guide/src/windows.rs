@@ -1,4 +1,4 @@
-// How each seed of a list runs to its stop slice over the test slices of its sheet. States and slices are the library's.
+// How each seed of a list runs to its stop slice over the test slices of its sheet, the last seed to the end of the test slices. States and slices are the library's.
 
 use crate::text;
 use seeds::{Machine, Settings, TestSlice};
@@ -10,12 +10,20 @@ pub struct Moment {
     pub against: TestSlice,
 }
 
-/// A seed with its slices; the last of them shows the stop.
+/// A seed with its slices. The last of them shows the stop, but for the last seed, which ends with the test slices.
 pub struct Window {
     pub seed: u64,
     /// How many test slices stand before it.
     pub start: usize,
     pub moments: Vec<Moment>,
+    pub stops: bool,
+}
+
+impl Window {
+    /// How many test slices it covers.
+    pub fn delivered(&self) -> usize {
+        self.moments.len() - usize::from(self.stops)
+    }
 }
 
 /// A sheet with its list, and how the list runs.
@@ -56,7 +64,7 @@ impl Sheet {
         let mut start = 0;
         for seed in text::numbers(&list, "seed", 16)? {
             let window = read.window(seed, start, &tests)?;
-            start += window.moments.len() - 1;
+            start += window.delivered();
             read.windows.push(window);
         }
         if start != tests.len() {
@@ -72,12 +80,14 @@ impl Sheet {
         let machine = Machine::new(settings, &self.masks);
         let mut moments = Vec::new();
         let mut state = seed;
-        for &test in tests[start..].iter().chain([&self.stop]) {
+        for &test in &tests[start..] {
             let slice = seeds::slice(machine, state).map_err(refused)?;
             let stops = has_bits(self.stop, slice);
             let against = if stops { self.stop } else { test };
             if !has_bits(against, slice) {
-                break;
+                return Err(format!(
+                    "the seed {seed:x} does not deliver its test slices"
+                ));
             }
             moments.push(Moment {
                 state,
@@ -89,10 +99,16 @@ impl Sheet {
                     seed,
                     start,
                     moments,
+                    stops,
                 });
             }
             state = seeds::step(machine.settings, state).map_err(refused)?;
         }
-        Err(format!("the seed {seed:x} does not run to its stop slice"))
+        Ok(Window {
+            seed,
+            start,
+            moments,
+            stops: false,
+        })
     }
 }
