@@ -1,5 +1,5 @@
 -- The expanding of a seed list (document 01, under its refusal sheet: "In expanding, seeds are tested one after another by 10, 11, 12; then 14, then 9"; document 02, R-5: the last seed ends where the slices end).
---     Walk                                  the slices of all seeds, or the cause of the first refused seed
+--     Walk                                  the slices of all seeds, or the cause of the first refused seed, or 14 of a last seed with nothing left
 --     after vs w                            the slices vs, then those of the walk w
 --     isLast ss                             no seed is left behind this one
 --     adding M done s m w                   the seed s delivers m slices after done others, then comes the walk w

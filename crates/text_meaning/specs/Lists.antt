@@ -2,7 +2,7 @@
 --     listOf s            the entries of the seed list s
 --     slicesIn s          the total that it says
 --     listFaultsOf s      which of causes 1, 2, 3 and 5 hold over the whole list
---     ranOf s             what its seeds deliver, one after another, by the published register rule: their slices, or the first refused seed
+--     ranOf s             what its seeds deliver, one after another, by the published register rule: their slices, or the cause of the first refused seed, or 14 where nothing is left for the last one
 --     ListMeaning s r     what the reply r says of the list s
 use mathlib.Core.Path.{_≡_}
 use mathlib.Core.List.{List}
@@ -42,7 +42,7 @@ listFaultsOf s = listFaults (settingsOf (listOf s)) (masksOf (listOf s)) (sliceF
 abbrev pub ranOf : List ℕ → Walk
 ranOf s = walk (machine (settingsOf (listOf s)) (masksOf (listOf s))) (rules (settingsOf (listOf s)) (sliceFor key.Stop (listOf s))) (slicesIn s) 0 0 (seedsOf (listOf s))
 
--- The first refused line; then the first of causes 1, 2, 3 and 5 that holds over the whole; then the first refused seed; then 14; otherwise the slices of the register rule, a line each.
+-- The first refused line; then the first of causes 1, 2, 3 and 5 that holds over the whole; then the first refused seed, or nothing left for the last; then 14; otherwise the slices of the register rule, a line each.
 pub record ListMeaning (s : List ℕ) (r : Reply) : Type 0 where
   pub line : (c : Refusal) → readingOf SeedList s .end ≡ scanned.Refused c → StopsAt SeedList s c × (r ≡ refused c)
   pub unformed : ReadThrough SeedList s → (c : Cause) → judged (listFaultsOf s) ≡ verdict.Refused c → r ≡ refused (refusalOf c)
