@@ -53,6 +53,18 @@ impl Answer {
         ))
     }
 
+    /// Whether a library that closes every window, also the one that ends a set, may have answered `closed` for a set whose answer this is. Its list goes on as this one up to the last seed and is no shorter, or it is refused by 8; a refusal of this one is its own too.
+    pub fn agrees_before_last(&self, closed: &Answer) -> bool {
+        match (self, closed) {
+            (Answer::Seeds(seeds), Answer::Seeds(closed)) => {
+                let before = seeds.len().saturating_sub(1);
+                closed.len() >= seeds.len() && closed[..before] == seeds[..before]
+            }
+            (Answer::Seeds(_), Answer::Refused(8, _)) => true,
+            _ => self == closed,
+        }
+    }
+
     /// The number of seeds; none for a stop slice or a refusal.
     pub fn seeds(&self) -> Option<usize> {
         match self {

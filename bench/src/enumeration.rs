@@ -66,7 +66,7 @@ fn prefixes(case: &Case, table: &[Vec<u64>], start: usize) -> Vec<Space> {
     spaces
 }
 
-/// The seed of the case's slices as one window.
+/// The seed of the case's slices as one window, which closes with the stop.
 pub fn window(case: &Case) -> Option<u64> {
     let length = case.specified.len();
     let table = rows(case, length);
@@ -77,12 +77,13 @@ pub fn window(case: &Case) -> Option<u64> {
     Runner::new(case).lowest(&space, length)
 }
 
-/// The longest window from a start, and its seed.
+/// The longest window from a start, and its seed. The one that ends the set need not close with the stop.
 fn longest(case: &Case, table: &[Vec<u64>], start: usize) -> Option<(usize, u64)> {
     let runner = Runner::new(case);
+    let left = case.specified.len() - start;
     let spaces = prefixes(case, table, start).into_iter().enumerate();
     for (length, mut space) in spaces.skip(1).rev() {
-        if space.keep_slice(&table[length], case.stop.0, case.stop.1) {
+        if length == left || space.keep_slice(&table[length], case.stop.0, case.stop.1) {
             if let Some(seed) = runner.lowest(&space, length) {
                 return Some((length, seed));
             }

@@ -8,7 +8,7 @@ mod window;
 
 use window::{room, Machine};
 
-/// The seeds of a set, for windows of at most `limit` slices; or refusal 8's value, the slices of the longest start that can be cut.
+/// The seeds of a set, for windows of at most `limit` slices; or refusal 8's value, the slices of the longest start that can be cut. The window that ends the set need not close with the stop.
 pub fn encode(
     cells: usize,
     taps: u64,
@@ -25,7 +25,9 @@ pub fn encode(
     let mut start = 0;
     while start < specified.len() {
         let end = specified.len().min(start + limit);
-        let reached = machine.reach(&specified[start..end], &bits[start..end], &mut room);
+        let closing = end < specified.len();
+        let part = (&specified[start..end], &bits[start..end]);
+        let reached = machine.reach(part, closing, &mut room);
         let (slices, seed) = reached.ok_or(start)?;
         seeds.push(seed);
         start += slices;
@@ -33,7 +35,7 @@ pub fn encode(
     Ok(seeds)
 }
 
-/// The lowest state that covers a window.
+/// The lowest state that covers a window, which closes with the stop.
 pub fn window(
     cells: usize,
     taps: u64,

@@ -1,6 +1,6 @@
 // The benchmark program: the proved library beside other programs and a SAT solver, on the same sets and windows in one run.
 // `bench [SECONDS] [FOLDER]` prints the tables and writes FOLDER/benchmarks.md with its plots; SECONDS limits the CPU time of each measurement.
-// `bench part NAME SECONDS` prints one section (sets, windows, degenerate, stops or limits) and writes nothing; `bench part NAME SECONDS FOLDER`, for stops or limits, also writes the section's plots.
+// `bench part NAME SECONDS` prints one section (sets, last, windows, degenerate, stops or limits) and writes nothing; `bench part NAME SECONDS FOLDER`, for sets, stops or limits, also writes the section's plots.
 // FIRST_VERSION may name the benchmark program of an earlier commit, built with SEEDS_LIBRARY: the folder of the static library that rust/build.rs links.
 // `bench quick` runs a few small rows, writes nothing and ends with `N passed, M failed`.
 // It is built with the workspace's profile `measured`; a build that checks for overflow measures nothing.
@@ -15,6 +15,7 @@ mod degenerate_section;
 mod enumeration;
 mod fast;
 mod fewest;
+mod last_section;
 mod library;
 mod limits;
 mod limits_plots;

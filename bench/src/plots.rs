@@ -171,12 +171,18 @@ fn stops_against_density(rows: &[StopRow]) -> Plot {
     }
 }
 
-/// The plots of the sections on sets and windows, and their names.
-pub fn of_sets_and_windows(sets: &[SetRow], windows: &[WindowRow]) -> Vec<(&'static str, Plot)> {
+/// The plots of the section on windows, and their names.
+pub fn of_windows(rows: &[WindowRow]) -> Vec<(&'static str, Plot)> {
     vec![
-        ("benchmarks-cells.svg", against_cells(windows)),
-        ("benchmarks-positions.svg", against_positions(windows)),
-        ("benchmarks-slices.svg", against_slices(sets)),
-        ("benchmarks-density.svg", against_density(sets)),
+        ("benchmarks-cells.svg", against_cells(rows)),
+        ("benchmarks-positions.svg", against_positions(rows)),
+    ]
+}
+
+/// The plots of the section on sets, and their names.
+pub fn of_sets(rows: &[SetRow]) -> Vec<(&'static str, Plot)> {
+    vec![
+        ("benchmarks-slices.svg", against_slices(rows)),
+        ("benchmarks-density.svg", against_density(rows)),
     ]
 }

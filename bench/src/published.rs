@@ -1,10 +1,10 @@
 // The number of seeds by document 004's own procedure (section IV), with document 01's register, stop slice and order of slices.
-// Slices are taken one by one into the current seed's equations; after each, it is examined whether the stop slice can follow. At the first slice that fails, the stop follows the one before and a new seed begins.
+// Slices are taken one by one into the current seed's equations; after each but the last of the set, it is examined whether the stop slice can follow. At the first slice that fails, the stop follows the one before and a new seed begins. The last seed has no stop behind it.
 //
 // Where 004 is open or 01 says otherwise:
 // - 004 picks the next cube; here the slices stay in the order of the set, as in 01.
-// - A slice compatible with the stop gets one of its x set at once, as 004 did it. Which one is open: here the leftmost with which the slice and the stop behind it can be met.
-// - 004's last seed needs no stop; in 01, and here, every seed ends in it. A seed has at most as many slices as the window limit of the case: 256, as in 01, in all but one row of `bench quick`.
+// - A slice compatible with the stop gets one of its x set at once, as 004 did it. Which one is open: here the leftmost with which the slice and the stop behind it, where it has one, can be met.
+// - A seed has at most as many slices as the window limit of the case: 256, as in 01, in all but one row of `bench quick`.
 // - The seed is any solution; here the lowest.
 
 use crate::case::{Case, NONE_INVERTED};
@@ -29,7 +29,7 @@ impl Procedure<'_> {
             .then_some(closed)
     }
 
-    /// The space with the set's slice at `place` as slice t, such that the stop can follow; and the space with it.
+    /// The space with the set's slice at `place` as slice t, such that the stop can follow; and the space with it. Behind the set's last slice nothing need follow.
     fn taken(&self, space: &Space, place: usize, t: usize) -> Option<(Space, Space)> {
         let (specified, bits) = (self.case.specified[place], self.case.bits[place]);
         let (positions, stop) = self.case.stop;
@@ -37,8 +37,12 @@ impl Procedure<'_> {
         if !space.keep_slice(&self.table[t], specified, bits) {
             return None;
         }
+        let last = place + 1 == self.case.specified.len();
         let closed_after = |space: Space| {
-            let closed = self.closed(&space, t + 1)?;
+            let closed = match last {
+                true => space.clone(),
+                false => self.closed(&space, t + 1)?,
+            };
             Some((space, closed))
         };
         if specified & positions & (bits ^ stop) != 0 {
@@ -71,7 +75,7 @@ impl Procedure<'_> {
     }
 }
 
-/// Whether a state covers the case's slices from `start` on, by running the register.
+/// Whether a state covers the case's slices from `start` on, by running the register. The window that ends the set need not close with the stop.
 fn covers(case: &Case, start: usize, length: usize, seed: u64) -> bool {
     let part = start..start + length;
     second::covers(
@@ -85,6 +89,7 @@ fn covers(case: &Case, start: usize, length: usize, seed: u64) -> bool {
         &case.specified[part.clone()],
         &case.bits[part],
         seed,
+        start + length < case.specified.len(),
     )
 }
 

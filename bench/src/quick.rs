@@ -4,6 +4,8 @@ use crate::answer::Answer;
 use crate::case::{Ask, Case};
 use crate::columns::Column;
 use crate::degenerate;
+use crate::last_section::last_window;
+use crate::library;
 use crate::measure::Limits;
 use crate::published;
 use crate::row::{row, Plan};
@@ -55,22 +57,38 @@ fn sets() -> Result<Vec<(String, Case)>, String> {
     Ok(cases)
 }
 
-/// A set with a lower window limit, at which it takes more seeds than at 256.
+/// A set of 64 chains.
+const SPREAD: Kind = Kind {
+    chains: 64,
+    percent: 5,
+    clustered: false,
+    slices: 256,
+};
+
+/// The set with a lower window limit, at which it takes more seeds than at 256.
 fn limited() -> Result<(String, Case), String> {
-    let kind = Kind {
-        chains: 64,
-        percent: 5,
-        clustered: false,
-        slices: 256,
-    };
     let case = Case {
         window_limit: 16,
-        ..set(kind)?
+        ..set(SPREAD)?
     };
     Ok((
         "set of 64 chains, 5 %, 256 slices, window limit 16".to_string(),
         case,
     ))
+}
+
+/// The last window of the set, open and closed.
+fn last() -> Result<Vec<(String, Case)>, String> {
+    let case = set(SPREAD)?;
+    let Answer::Seeds(seeds) = library::set(&case) else {
+        return Err("the set of 64 chains is refused".to_string());
+    };
+    let before = seeds.len().saturating_sub(1);
+    let [open, closed] = last_window(&case, &seeds[..before]);
+    Ok(vec![
+        ("last window as a set".to_string(), open),
+        ("last window given singly".to_string(), closed),
+    ])
 }
 
 fn windows() -> Vec<(String, Case)> {
@@ -91,6 +109,10 @@ fn degenerate() -> Result<Vec<(String, Case)>, String> {
         }
         let name = format!("{}, set", register.name);
         cases.push((name, degenerate::set(&register, 5)?));
+        let name = format!("{}, set of 256 slices of x", register.name);
+        let window = degenerate::window(&register, 1, 256);
+        let ask = Ask::Set;
+        cases.push((name, Case { ask, ..window }));
     }
     Ok(cases)
 }
@@ -167,7 +189,7 @@ fn cases(cases: Vec<(String, Case)>) -> (usize, usize) {
 pub fn run() -> ExitCode {
     let all = sets().and_then(|sets| {
         let limited = vec![limited()?];
-        Ok([sets, limited, windows(), degenerate()?, stops()].concat())
+        Ok([sets, limited, last()?, windows(), degenerate()?, stops()].concat())
     });
     let (passed, failed) = match all {
         Ok(all) => cases(all),

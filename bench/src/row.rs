@@ -1,7 +1,7 @@
 // One row of a table: a case measured in every column, by turns, and the answers compared; or several cases by turns.
 
 use crate::answer::Answer;
-use crate::case::Case;
+use crate::case::{Ask, Case};
 use crate::columns::Column;
 use crate::measure::{measure, Limits, Time};
 
@@ -85,23 +85,31 @@ impl Times {
     }
 }
 
-/// The answer that the columns must share.
-struct Shared(Option<(Column, Answer)>);
+/// The answer that the columns must share. The library of an earlier commit may close the window that ends a set: its list of a set need only go on as theirs up to the last seed, and it is not theirs.
+struct Shared {
+    ask: Ask,
+    answer: Option<(Column, Answer)>,
+}
 
 impl Shared {
     fn compare(&mut self, column: Column, answer: Answer) -> Result<(), String> {
-        match &self.0 {
-            None => self.0 = Some((column, answer)),
-            Some((_, known)) if *known == answer => {}
-            Some((other, known)) => {
-                return Err(format!(
-                    "the answers differ: {} has {known}, {} has {answer}",
-                    other.name(),
-                    column.name()
-                ))
-            }
+        let closes = column == Column::First && self.ask == Ask::Set;
+        let Some((other, known)) = &self.answer else {
+            self.answer = (!closes).then_some((column, answer));
+            return Ok(());
+        };
+        let agree = match closes {
+            true => known.agrees_before_last(&answer),
+            false => *known == answer,
+        };
+        match agree {
+            true => Ok(()),
+            false => Err(format!(
+                "the answers differ: {} has {known}, {} has {answer}",
+                other.name(),
+                column.name()
+            )),
         }
-        Ok(())
     }
 }
 
@@ -148,12 +156,18 @@ pub fn rows<const N: usize>(
     let mut all = cases.map(|case| Turns {
         text: case.text(),
         times: Times::new(plan, left),
-        shared: Shared(None),
+        shared: Shared {
+            ask: case.ask,
+            answer: None,
+        },
     });
     for round in 0..plan.rounds {
         for turns in &mut all {
             turns.round(plan, round)?;
         }
     }
-    Ok(all.map(|turns| (turns.times, turns.shared.0.map(|(_, answer)| answer))))
+    Ok(all.map(|turns| {
+        let answer = turns.shared.answer.map(|(_, answer)| answer);
+        (turns.times, answer)
+    }))
 }

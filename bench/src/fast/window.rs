@@ -117,30 +117,42 @@ impl Machine {
         Some(space)
     }
 
-    /// The lowest state of a space that shows the stop in the slice after so many, and not before.
-    fn lowest_covering(&self, mut space: Space, slices: usize, words: &mut Words) -> Option<u64> {
+    /// The lowest state of a space that does not show the stop in so many slices and, where the window is closing, shows it in the next.
+    fn lowest_covering(
+        &self,
+        mut space: Space,
+        slices: usize,
+        closing: bool,
+        words: &mut Words,
+    ) -> Option<u64> {
         let (specified, bits) = self.stop;
-        if !meet(&mut space, self.row(slices), specified, bits) {
+        if closing && !meet(&mut space, self.row(slices), specified, bits) {
             return None;
         }
         lowest_clear(self.pattern(0..slices), space, words)
     }
 
-    /// The longest window from the first slice on that some state covers: its slices and its seed. Lengths are tried from the longest that has states down.
-    pub fn reach(&self, specified: &[u64], bits: &[u64], room: &mut Room) -> Option<(usize, u64)> {
+    /// The longest window from the first slice of a part on that some state covers: its slices and its seed. Lengths are tried from the longest that has states down. A window that takes the whole part closes with the stop where `closing` says so, a shorter one always.
+    pub fn reach(
+        &self,
+        (specified, bits): (&[u64], &[u64]),
+        closing: bool,
+        room: &mut Room,
+    ) -> Option<(usize, u64)> {
         self.grow(specified, bits, &mut room.spaces);
         while let Some(space) = room.spaces.pop() {
             let slices = room.spaces.len() + 1;
-            if let Some(seed) = self.lowest_covering(space, slices, &mut room.words) {
+            let closing = closing || slices < specified.len();
+            if let Some(seed) = self.lowest_covering(space, slices, closing, &mut room.words) {
                 return Some((slices, seed));
             }
         }
         None
     }
 
-    /// The lowest state that covers a window.
+    /// The lowest state that covers a window, which closes with the stop.
     pub fn seed(&self, specified: &[u64], bits: &[u64], room: &mut Room) -> Option<u64> {
         let space = self.fit(specified, bits)?;
-        self.lowest_covering(space, specified.len(), &mut room.words)
+        self.lowest_covering(space, specified.len(), true, &mut room.words)
     }
 }
