@@ -79,12 +79,19 @@ pub fn starred_windows() -> Vec<(Call, Result<u64, Refused>)> {
         (of_r("01", &["10"]), refused(7, 0)),
         (of_r("01", &["xx", "xx"]), Ok(3)),
         (of_r("01", &["11", "xx"]), refused(7, 0)),
+        // the set of these slices has seed 1, which does not close the window
+        (of_r("01", &["1x", "0x"]), refused(7, 0)),
     ]
 }
 
-/// The starred set.
-pub fn starred_set() -> (Call, Result<Vec<u64>, Refused>) {
-    (of_r("01", &["1x", "0x"]), refused(8, 1))
+/// The starred set, whose last window need not close after R-5 of document 02, and sets with other slices or with more after it.
+pub fn starred_sets() -> [(Call, Result<Vec<u64>, Refused>); 4] {
+    [
+        (of_r("01", &["1x", "0x"]), Ok(vec![1])),
+        (of_r("01", &["1x", "0x", "01"]), refused(8, 1)),
+        (of_r("01", &["00"]), Ok(vec![0])),
+        (of_r("01", &["00", "10"]), refused(8, 0)),
+    ]
 }
 
 /// The starred sheet as a call, with its stop slice and its seeds.
@@ -96,8 +103,11 @@ pub fn sheet_set() -> (Call, Result<Vec<u64>, Refused>) {
     (call, Ok(vec![3, 3]))
 }
 
+/// A set, and the stop slice that it must get.
+type StopOf = (Call, Result<(u64, u64), Refused>);
+
 /// The starred sets whose stop slice steps end with slices in, with their answers after R-1 of document 02: 6 as before, and 11.
-pub fn starred_in() -> [(Call, Result<(u64, u64), Refused>); 2] {
+pub fn starred_in() -> [StopOf; 2] {
     let one_chain = Call {
         masks: vec![1],
         ..of_r("0x", &["0", "1"])
@@ -146,11 +156,12 @@ pub fn limit_windows() -> Vec<(Call, Result<u64, Refused>)> {
 }
 
 /// The unstarred sets: numbers of slices at their limits, equal masks, one tap.
-/// The longest window of R with equal masks delivers two zeros; of the one tap, 63.
+/// The longest window of R with equal masks that closes delivers two zeros; of the one tap, 63. State 0 delivers the last 256 slices or fewer.
 pub fn limit_sets() -> Vec<(Call, Result<Vec<u64>, Refused>)> {
-    let round = [vec![1; 32], vec![1 << 31]].concat();
+    let twos = [vec![6; 896], vec![0]].concat();
+    let round = [vec![1; 29], vec![0]].concat();
     vec![
-        (all_x(equal_masks(), 2_048), Ok(vec![6; 1_024])),
+        (all_x(equal_masks(), 2_048), Ok(twos)),
         (all_x(equal_masks(), 2_049), refused(3, 0)),
         (all_x(one_tap(), 2_048), Ok(round)),
     ]
@@ -171,13 +182,30 @@ pub fn starred() -> Outcome {
     for (call, told) in starred_windows() {
         same(&format!("the window {call:x?}"), call.window_seed(), told)?;
     }
-    for (set, told) in [starred_set(), sheet_set()] {
+    for (set, told) in starred_sets().into_iter().chain([sheet_set()]) {
         same(&format!("the set {set:x?}"), encoded(&set), told)?;
     }
-    let call = of_r("01", &["xx"]);
-    same("seed 6", call.expand(&[6], &mut [9; 4]), refused(11, 0))?;
-    same("seed 0", call.expand(&[0], &mut [9; 4]), refused(12, 0))?;
-    Ok(18)
+    Ok(20 + starred_seeds()?)
+}
+
+/// Document 01's seeds 6 and 0 for R, and lists of document 02, R-5: the seeds, the number of slices, and the answer.
+fn starred_seeds() -> Outcome {
+    let lists = [
+        (&[6][..], 1, refused(11, 0)),
+        (&[0], 1, Ok(1)),
+        (&[0], 256, Ok(256)),
+        (&[0], 257, refused(12, 0)),
+        (&[0, 7], 2, refused(12, 0)),
+        (&[7, 0], 2, Ok(2)),
+        (&[3, 3], 2, refused(14, 2)),
+        (&[3, 3], 3, Ok(3)),
+    ];
+    for (seeds, slices, told) in lists {
+        let call = all_x(of_r("01", &[]), slices);
+        let answer = call.expand(seeds, &mut [9; 256]);
+        same(&format!("the seeds {seeds:?} of {slices}"), answer, told)?;
+    }
+    Ok(lists.len())
 }
 
 pub const SHEET: &str = "cells=3\ntaps=6\nchains=2\nchain=1\nchain=4\ndepth=2\nslice=10\nslice=x1\nslice=1x\nslice=1x\n";

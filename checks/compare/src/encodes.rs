@@ -48,11 +48,27 @@ fn note_answer<T>(
     }
 }
 
-/// Notes the windows of an accepted list.
+/// The lengths of the windows of an accepted list: each runs into the stop, and the last takes the slices that are left.
+fn lengths(list: &Call) -> Vec<usize> {
+    let before = &list.seeds[..list.seeds.len() - 1];
+    let mut lengths: Vec<usize> = before
+        .iter()
+        .map(|&seed| alone(list, seed).unwrap_or(0))
+        .collect();
+    lengths.push(list.slices - lengths.iter().sum::<usize>());
+    lengths
+}
+
+/// Notes the windows of an accepted list, and whether the last one closes with the stop.
 fn note_windows(list: &Call, seen: &mut Seen) {
     let mut start = 0;
-    for &seed in &list.seeds {
-        let length = alone(list, seed).unwrap_or(0);
+    let lengths = lengths(list);
+    let (last, left) = (list.seeds[lengths.len() - 1], lengths[lengths.len() - 1]);
+    seen.note(match alone(list, last) == Ok(left) {
+        true => "the last window closes",
+        false => "the last window does not close",
+    });
+    for length in lengths {
         if length == 1 || length == DEFAULT_LIMIT {
             seen.note(&format!("a window of {length}"));
         }
@@ -199,15 +215,19 @@ pub fn examples() -> Outcome {
     let mut random = Random(15);
     let mut met = Met::default();
     let mut count = 0;
-    let starred = [bench::starred_set(), bench::sheet_set()];
-    for (call, known) in starred.into_iter().chain(bench::limit_sets()) {
+    let starred = bench::starred_sets()
+        .into_iter()
+        .chain([bench::sheet_set()]);
+    for (call, known) in starred.chain(bench::limit_sets()) {
         count += compare_known(&mut random, &call, known, &mut met)?;
     }
     let (call, known) = bench::sheet_set();
     count += compare_known_cubes(&mut random, &call, known, &mut met)?;
-    // with the stop 11, R delivers the first five of the two chains' slices and not the sixth
-    let [(one_chain, _), (two_chains, _)] = bench::starred_in();
-    for (call, known) in [(one_chain, refused(6, 0)), (two_chains, refused(8, 5))] {
+    // with the stop 11, R delivers the first five of the two chains' slices in windows that close, and the sixth in one that does not
+    let [(one_chain, _), (mut two_chains, told)] = bench::starred_in();
+    two_chains.stop = told.map_err(|refused| format!("{refused:?}"))?;
+    let seeds = Ok(vec![3, 3, 3, 1, 4]);
+    for (call, known) in [(one_chain, refused(6, 0)), (two_chains, seeds)] {
         count += compare_known_cubes(&mut random, &call, known, &mut met)?;
     }
     let call = bench::figure_set();
@@ -270,7 +290,10 @@ pub fn brute(call: &Call) -> Result<Known, String> {
 
 /// Notes where the first window of an accepted set is longer than one that no state covers.
 fn note_gap(call: &Call, seeds: &[u64], seen: &mut Seen) {
-    let length = alone(call, seeds[0]).unwrap_or(0);
+    let length = match seeds.len() {
+        1 => call.specified.len(),
+        _ => alone(call, seeds[0]).unwrap_or(0),
+    };
     for shorter in 1..length {
         let mut window = call.clone();
         window.specified.truncate(shorter);
@@ -282,8 +305,10 @@ fn note_gap(call: &Call, seeds: &[u64], seen: &mut Seen) {
 }
 
 /// What the second program must have met in small sets and cubes alike.
-const SMALL: [&str; 11] = [
+const SMALL: [&str; 13] = [
     "accepted",
+    "the last window closes",
+    "the last window does not close",
     "several seeds",
     "accepted, 1 chain",
     "accepted, equal masks",

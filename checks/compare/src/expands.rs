@@ -5,7 +5,7 @@ use crate::inputs::{damage_stop, lawful};
 use crate::lent::lend;
 use crate::random::Random;
 use crate::report::{same, Outcome};
-use crate::runs::{pool, walk, Pool};
+use crate::runs::{alone, pool, walk, Pool};
 use crate::seen::Seen;
 use second::Refused;
 
@@ -32,6 +32,25 @@ pub fn compare(random: &mut Random, call: &Call, room: usize, seen: &mut Seen) -
         .map_err(|why| format!("{why}, {room} entries lent to {call:x?}"))?;
     note(call, &told, seen);
     Ok(2)
+}
+
+/// One list whose slices or refusal are known, with enough space, one entry fewer and none.
+pub fn compare_known(
+    random: &mut Random,
+    call: &Call,
+    known: Result<Vec<u64>, Refused>,
+    seen: &mut Seen,
+) -> Outcome {
+    let mut slices = vec![0; call.slices];
+    let told = call.expand(&call.seeds, &mut slices);
+    let told = told.map(|count| slices[..count].to_vec());
+    same("the second program's slices", told, known)
+        .map_err(|why| format!("{why} of the list {call:x?}"))?;
+    let mut count = 1;
+    for room in [call.slices, call.slices.saturating_sub(1), 0] {
+        count += compare(random, call, room, seen)?;
+    }
+    Ok(count)
 }
 
 /// One list with buffers of exactly the size, one entry short, empty, one entry longer and much longer.
@@ -104,14 +123,21 @@ fn damage(random: &mut Random, call: &mut Call) {
     }
 }
 
-/// A total near the right one, at a limit, or any.
+/// A total near the right one, at a limit, or any; or one that leaves the last seed none, up to its slices, or more than the limit.
 fn wrong_total(random: &mut Random, call: &mut Call, total: usize) {
+    let last = call
+        .seeds
+        .last()
+        .map_or(0, |&seed| alone(call, seed).unwrap_or(0));
+    let before = total.saturating_sub(last);
     let near = [total + 1, total.saturating_sub(1)];
     let far = [0, 1, 2_048, 2_049, usize::MAX, random.between(1, 2_048)];
-    call.slices = if random.one_in(2) {
-        near[random.between(0, 1)]
-    } else {
-        far[random.between(0, 5)]
+    call.slices = match random.below(4) {
+        0 | 1 => near[random.between(0, 1)],
+        2 => {
+            before + [0, random.between(0, last), call.limit, call.limit + 1][random.between(0, 3)]
+        }
+        _ => far[random.between(0, 5)],
     };
 }
 
@@ -161,25 +187,39 @@ fn limits() -> Vec<(Vec<usize>, usize, Result<usize, Refused>)> {
     vec![
         (vec![1], 1, Ok(1)),
         (vec![256], 256, Ok(256)),
+        (vec![256], 255, Ok(255)),
+        (vec![256], 257, refused(14, 256)),
+        (vec![257], 258, refused(12, 0)),
         (vec![257], 257, refused(12, 0)),
-        (vec![257], 256, refused(12, 0)),
+        (vec![257], 256, Ok(256)),
+        (vec![257], 1, Ok(1)),
+        (vec![257, 1], 258, refused(12, 0)),
         (vec![0], 1, refused(11, 0)),
         (vec![1, 256, 3], 260, Ok(260)),
         (vec![1, 257, 0], 2, refused(12, 1)),
         (vec![1, 0, 257], 2, refused(11, 1)),
         (vec![256; 8], 2_048, Ok(2_048)),
-        (vec![256; 9], 2_048, refused(14, 2_304)),
+        (vec![256; 9], 2_048, refused(14, 2_048)),
+        (vec![256; 9], 2_047, refused(14, 2_048)),
         (vec![1; 2_048], 2_048, Ok(2_048)),
         (vec![1; 2_047], 2_047, Ok(2_047)),
         (vec![1; 2_047], 2_048, refused(14, 2_047)),
-        (vec![1; 2_048], 2_047, refused(14, 2_048)),
+        (vec![1; 2_048], 2_047, refused(14, 2_047)),
+        (vec![1; 2_048], 1, refused(14, 2_047)),
         (vec![1; 2_048], 2_049, refused(3, 0)),
         (vec![1; 2_049], 2_049, refused(3, 0)),
         (vec![1; 2_049], 2_048, refused(3, 0)),
+        ([vec![1; 2_047], vec![257]].concat(), 2_048, Ok(2_048)),
+        (
+            [vec![1; 1_791], vec![257]].concat(),
+            2_048,
+            refused(12, 1_791),
+        ),
+        ([vec![1; 1_792], vec![257]].concat(), 2_048, Ok(2_048)),
         (
             [vec![1; 2_047], vec![257]].concat(),
-            2_048,
-            refused(12, 2_047),
+            2_047,
+            refused(14, 2_047),
         ),
         (
             [vec![1; 2_047], vec![0]].concat(),
@@ -209,13 +249,13 @@ fn at_limits(random: &mut Random, cells: usize, seen: &mut Seen) -> Outcome {
     Ok(count)
 }
 
-/// 2,048 seeds of 256 slices each: the total found is counted to its end.
+/// 2,048 seeds of 256 slices each: what all but the last deliver is counted to its end.
 fn most_slices(random: &mut Random, seen: &mut Seen) -> Outcome {
     let (mut call, states) = walk(random, 9);
     call.seeds = vec![states[256]; 2_048];
     call.slices = 2_048;
     let answer = call.expand(&call.seeds, &mut []);
-    same("the second program's total", answer, refused(14, 524_288))?;
+    same("the second program's total", answer, refused(14, 524_032))?;
     compare(random, &call, 2_048, seen)
 }
 

@@ -3,7 +3,7 @@
 pub mod every;
 pub mod lines;
 pub mod many;
-mod model;
+pub mod model;
 pub mod orders;
 pub mod outside;
 pub mod stops;

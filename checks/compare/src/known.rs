@@ -112,11 +112,11 @@ const OF_SHEET: [Row; 30] = [
     (10, b"slice=1x\nx", 13, 11),
     (10, b"slice=1x\nslice=1x\n", 3, 0),
     (10, b"slice=1x\ndepth=2\n", 13, 11),
-    (10, b"slice=00\n", 8, 3),
+    (10, b"slice=00\n", 0, 0),
 ];
 
-/// Lines of the list: stop, slices and seed.
-const OF_LIST: [Row; 35] = [
+/// Lines of the list: stop, slices and seed. Each seed runs into the stop after two slices.
+const OF_LIST: [Row; 37] = [
     (6, b"", 13, 6),
     (6, b"stop=\n", 13, 6),
     (6, b"stop=0\n", 13, 6),
@@ -134,7 +134,9 @@ const OF_LIST: [Row; 35] = [
     (7, b"slice=10\n", 13, 7),
     (7, b"slices=0\n", 3, 7),
     (7, b"slices=2049\n", 3, 7),
-    (7, b"slices=3\n", 14, 4),
+    (7, b"slices=1\n", 14, 2),
+    (7, b"slices=2\n", 14, 2),
+    (7, b"slices=3\n", 0, 0),
     (7, b"slices=5\n", 14, 4),
     (7, b"slices=2048\n", 14, 4),
     (8, b"seed=\n", 13, 8),
@@ -148,7 +150,7 @@ const OF_LIST: [Row; 35] = [
     (8, b"seed=0\n", 11, 0),
     (9, b"seed=6\n", 11, 1),
     (9, b"", 14, 2),
-    (9, b"seed=3\nseed=3\n", 14, 6),
+    (9, b"seed=3\nseed=3\n", 14, 4),
     (9, b"seed=3", 13, 9),
     (9, b"seed=3\n\n", 13, 10),
     (9, b"seed=3\nslices=4\n", 13, 10),
@@ -158,7 +160,8 @@ const OF_LIST: [Row; 35] = [
 type Changes = &'static [(usize, &'static [u8])];
 
 /// Several causes in one sheet: the first refused line answers, its form before its range, and all lines before the whole.
-const SEVERAL_OF_SHEET: [(Changes, u64, usize); 14] = [
+const SEVERAL_OF_SHEET: [(Changes, u64, usize); 15] = [
+    (&[(9, b"slice=00\n"), (10, b"slice=10\n")], 8, 1),
     (&[(7, b""), (8, b""), (9, b""), (10, b"")], 3, 0),
     (
         &[(6, b"depth=257\n"), (7, b""), (8, b""), (9, b""), (10, b"")],
@@ -199,7 +202,7 @@ const SEVERAL_OF_SHEET: [(Changes, u64, usize); 14] = [
 ];
 
 /// Several causes in one list.
-const SEVERAL_OF_LIST: [(Changes, u64, usize); 12] = [
+const SEVERAL_OF_LIST: [(Changes, u64, usize); 15] = [
     (&[(8, b"seed=8\n"), (9, b"seed=\n")], 13, 9),
     (&[(8, b"seed=8\n"), (9, b"seed=3")], 13, 9),
     (&[(7, b"slices=0\n"), (8, b"seed=8\n")], 3, 7),
@@ -214,7 +217,22 @@ const SEVERAL_OF_LIST: [(Changes, u64, usize); 12] = [
         0,
     ),
     (
+        &[(6, b"stop=01\n"), (8, b"seed=0\n"), (9, b"seed=3\n")],
+        12,
+        0,
+    ),
+    (
         &[(6, b"stop=01\n"), (8, b"seed=3\n"), (9, b"seed=0\n")],
+        0,
+        0,
+    ),
+    (
+        &[(6, b"stop=01\n"), (7, b"slices=2\n"), (9, b"seed=0\n")],
+        14,
+        2,
+    ),
+    (
+        &[(6, b"stop=01\n"), (7, b"slices=259\n"), (9, b"seed=0\n")],
         12,
         1,
     ),
@@ -239,9 +257,11 @@ const SLICES_AT_LIMIT: [Many; 10] = [
     ("slice=00\n", 2_049, "", 3, 2_055),
 ];
 
-/// Numbers of seed lines at their limit. Seed 7 delivers one slice of R.
-const SEEDS_AT_LIMIT: [Many; 10] = [
+/// Numbers of seed lines at their limit. Seed 7 delivers one slice of R and seed 3 two, but the last seed only what is left.
+const SEEDS_AT_LIMIT: [Many; 12] = [
     ("seed=7\n", 2_048, "", 0, 0),
+    ("seed=7\n", 2_046, "seed=3\n", 0, 0),
+    ("seed=3\n", 2_048, "", 14, 4_094),
     ("seed=7\n", 2_047, "", 14, 2_047),
     ("seed=7\n", 2_049, "", 3, 2_056),
     ("seed=8\n", 2_049, "", 3, 2_056),
@@ -250,7 +270,7 @@ const SEEDS_AT_LIMIT: [Many; 10] = [
     ("seed=8\n", 2_048, "seed=08\n", 13, 2_056),
     ("seed=7\n", 2_047, "seed=8\n", 10, 2_047),
     ("seed=7\n", 2_047, "seed=6\n", 11, 2_047),
-    ("seed=7\n", 2_047, "seed=3\n", 14, 2_049),
+    ("seed=7\n", 2_047, "seed=3\n", 0, 0),
 ];
 
 /// The text with what stands in the place of some of its lines.

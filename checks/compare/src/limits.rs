@@ -8,17 +8,15 @@ use crate::random::Random;
 use crate::report::Outcome;
 use crate::runs::walk;
 
-/// Sets of all x at the limits of length. The stop leaves one state for each window, so windows of 256 come first and then the rest.
+/// Sets of all x at the limits of length. The stop leaves one state for each window that closes, so windows of 256 come first. State 0 delivers what is left.
 /// A slice that shows the stop is in no window.
 fn at_limits(random: &mut Random, cells: usize, met: &mut Met) -> Outcome {
     let (call, states) = walk(random, cells);
     let mut count = 0;
     for length in [1, 2, 255, 256, 257, 511, 512, 513, 2_047, 2_048] {
         let set = bench::all_x(call.clone(), length);
-        let mut seeds = vec![states[256]; length / 256];
-        if length % 256 > 0 {
-            seeds.push(states[length % 256]);
-        }
+        let mut seeds = vec![states[256]; (length - 1) / 256];
+        seeds.push(0);
         count += compare_known(random, &set, Ok(seeds), met)?;
     }
     for length in [0, 2_049] {
@@ -63,7 +61,7 @@ const UNLAWFUL: [(usize, usize); 13] = [
     (0, 0),
 ];
 
-/// Cubes of all x at the limits of depth and length, for the one tap: its stop slice is 1, and its longest window has 63 zeros.
+/// Cubes of all x at the limits of depth and length, for the one tap: its stop slice is 1, and its longest window that closes has 63 zeros. State 0 delivers the last 256 slices or fewer.
 fn at_depths(random: &mut Random, met: &mut Met) -> Outcome {
     let of = |length, depth| Call {
         depth,
@@ -71,10 +69,8 @@ fn at_depths(random: &mut Random, met: &mut Met) -> Outcome {
     };
     let mut count = 0;
     for (length, depth) in LAWFUL {
-        let mut seeds = vec![1; length / 63];
-        if length % 63 > 0 {
-            seeds.push(1 << (63 - length % 63));
-        }
+        let closing = length.saturating_sub(256).div_ceil(63);
+        let seeds = [vec![1; closing], vec![0]].concat();
         count += compare_known_cubes(random, &of(length, depth), Ok(seeds), met)?;
     }
     for (length, depth) in UNLAWFUL {
@@ -83,25 +79,28 @@ fn at_depths(random: &mut Random, met: &mut Met) -> Outcome {
     Ok(count)
 }
 
-/// A register whose longest window is one slice, 1, and then the stop, 0: as many seeds as slices.
+/// A register whose state 1 alone delivers 10, and next the stop, 0x: as many seeds as slices, the last one too.
+/// A slice 01 shows the stop. With the first chain alone both patterns are then taken.
 fn most_seeds(random: &mut Random, met: &mut Met) -> Outcome {
     let mut call = Call {
         cells: 2,
         taps: 2,
-        masks: vec![1],
-        stop: (1, 0),
-        ..bench::of_r("1x", &[])
+        masks: vec![1, 2],
+        ..bench::of_r("0x", &[])
     };
     let mut count = 0;
     for length in [1, 2_047, 2_048] {
-        (call.specified, call.bits) = (vec![1; length], vec![1; length]);
+        (call.specified, call.bits) = (vec![3; length], vec![1; length]);
         count += compare_known(random, &call, Ok(vec![1; length]), met)?;
         count += compare_known_cubes(random, &call, Ok(vec![1; length]), met)?;
     }
     for place in [0, 1, 1_000, 2_047] {
-        (call.specified, call.bits) = (vec![1; 2_048], vec![1; 2_048]);
-        call.bits[place] = 0;
+        call.masks = vec![1, 2];
+        (call.specified, call.bits) = (vec![3; 2_048], vec![1; 2_048]);
+        call.bits[place] = 2;
         count += compare_known(random, &call, refused(8, place), met)?;
+        call.masks = vec![1];
+        (call.specified, call.bits[place]) = (vec![1; 2_048], 0);
         count += compare_known_cubes(random, &call, refused(6, 0), met)?;
     }
     Ok(count)

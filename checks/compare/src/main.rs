@@ -21,7 +21,9 @@ mod limits;
 mod load;
 mod marks;
 mod notes;
+mod open_end;
 mod order;
+mod placed;
 mod programs;
 mod random;
 mod remarks;
@@ -111,6 +113,7 @@ fn main() -> ExitCode {
     library_encodes(&mut report);
     library_limits(&mut report);
     library_inverts(&mut report);
+    library_open_ends(&mut report);
     library_texts(&mut report, texts::RANDOM_TEXTS);
     program_texts(&mut report, programs::RANDOM_TEXTS);
     if report.end() {
@@ -219,6 +222,20 @@ fn library_inverts(report: &mut Report) {
     report.case("library: stop slice under masks", stops::answers());
 }
 
+/// The library where the last window need not close.
+fn library_open_ends(report: &mut Report) {
+    use open_end::{lengths, lists, sets, wide, wrong};
+    report.case("library: open end, every small set", sets::one_chain());
+    let sets = sets::two_chains();
+    report.case("library: open end, every small set of two chains", sets);
+    let every = lists::every_small_list();
+    report.ended("library: open end, every small list", every);
+    report.case("library: open end, every limit", lengths::answers());
+    let wrong = wrong::answers();
+    report.ended("library: open end, wrong lists", wrong);
+    report.case("library: open end, wide registers", wide::answers());
+}
+
 /// The library's entries for texts.
 fn library_texts(report: &mut Report, count: usize) {
     report.texts("library: known texts", texts::known(known::all()));
@@ -230,6 +247,8 @@ fn library_texts(report: &mut Report, count: usize) {
     report.texts("library: texts at every limit", by_library());
     let masks = inverted::texts::by_library();
     report.texts("library: texts under masks", masks);
+    let ends = open_end::texts::by_library();
+    report.texts("library: texts, open end", ends);
     report.texts("library: texts byte by byte", texts::byte_by_byte());
     report.texts("library: large texts", texts::large());
     report.texts("library: random texts", texts::random(count));
@@ -253,6 +272,8 @@ fn program_texts(report: &mut Report, count: usize) {
     report.texts("programs: texts at every limit", by_programs(&paths));
     let masks = inverted::texts::by_programs(&paths);
     report.texts("programs: texts under masks", masks);
+    let ends = open_end::texts::by_programs(&paths);
+    report.texts("programs: texts, open end", ends);
     report.texts("programs: large texts", programs::large(&paths));
     report.texts("programs: pieces and pauses", programs::in_pieces(&paths));
     report.texts("programs: encode into expand", programs::both(&paths));

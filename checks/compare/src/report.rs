@@ -1,5 +1,6 @@
 // The cases of the run: each has a name and a number of comparisons, and passes or fails as a whole.
 
+use crate::open_end::endings::Ended;
 use crate::tally::Tally;
 
 pub struct Report {
@@ -37,6 +38,14 @@ impl Report {
                 &format!("{name}, {} texts", tally.texts),
                 Ok(tally.compared),
             ),
+            Err(why) => self.fail(name, &why),
+        }
+    }
+
+    /// A case over lists, which says how their last seeds ended.
+    pub fn ended(&mut self, name: &str, outcome: Result<Ended, String>) {
+        match outcome {
+            Ok(ended) => self.case(&format!("{name}, {ended}"), Ok(ended.compared)),
             Err(why) => self.fail(name, &why),
         }
     }

@@ -13,7 +13,7 @@ pub struct Pool {
     pub refused: Vec<(u64, u64)>,
 }
 
-/// What the second program says to a seed alone: its number of slices, or its refusal. No seed alone comes to 2,048 slices.
+/// What the second program says to a seed alone: its number of slices before its stop, or its refusal. With 2,048 slices left, more than any limit, it must run into the stop, and no seed alone comes to so many.
 pub fn alone(call: &Call, seed: u64) -> Result<usize, u64> {
     let one = Call {
         slices: second::MOST_SLICES,

@@ -2,6 +2,7 @@
 // The proof checker computes each answer from the definitions of specs/ and refuses the file where one differs.
 
 mod calls;
+mod ends;
 mod stops;
 mod table;
 mod texts;
@@ -136,6 +137,8 @@ pub fn write(root: &Path, file: &Path) -> io::Result<usize> {
         calls::cubes(&mut random, inverts, 75),
         calls::lists(&mut random, inverts, 75),
         texts::texts(&mut random, inverts, 100),
+        ends::sets(&mut random, 150),
+        ends::lists(&mut random, 250),
     ];
     let (lines, names) = definitions(root)?;
     let unfolding = format!("ones onesIn {}", names.join(" "));

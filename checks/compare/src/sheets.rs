@@ -138,9 +138,15 @@ fn made(random: &mut Random, limit: usize) -> Call {
         };
         call.seeds.insert(place, seed);
     }
-    if random.one_in(6) {
-        call.slices = [1, 2_048, call.slices + 1][random.between(0, 2)];
-    }
+    call
+}
+
+/// The list with another total: at a limit, one off, or any up to one that leaves the last seed more slices than the limit.
+fn other_total(random: &mut Random, mut call: Call) -> Call {
+    let total = call.slices;
+    let any = random.between(1, total + call.limit + 1);
+    let totals = [1, 2_048, total + 1, total.saturating_sub(1), any, any];
+    call.slices = totals[random.between(0, 5)].clamp(1, 2_048);
     call
 }
 
@@ -153,12 +159,15 @@ pub fn any_at(random: &mut Random, program: Program, limit: usize) -> Lines {
     if program == Program::Encode {
         return sheet(&set(random));
     }
-    if random.one_in(2) {
-        if let Some(call) = encoded(set(random)) {
-            return list(&call);
-        }
+    let whole = match random.one_in(2) {
+        true => encoded(set(random)),
+        false => None,
+    };
+    let call = whole.unwrap_or_else(|| made(random, limit));
+    match random.one_in(5) {
+        true => list(&other_total(random, call)),
+        false => list(&call),
     }
-    list(&made(random, limit))
 }
 
 /// The same lines, now and then with an invert line of 0 where they have none.

@@ -5,12 +5,12 @@ use crate::damage::{self, any_text};
 use crate::known::Known;
 use crate::largest::{huge, largest, sized};
 use crate::library::{encode_text, expand_text, TextAnswer};
+use crate::placed::put;
 use crate::random::Random;
 use crate::remarks;
 use crate::report::{same, Outcome};
 use crate::tally::Tally;
 use crate::text::{first_difference, Program, Text, Told};
-use crate::window_limit::lines::put;
 use second::Refused;
 
 /// How many random texts the gate tries; so many meet everything that is required.

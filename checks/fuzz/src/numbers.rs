@@ -1,5 +1,5 @@
 // The entries by numbers against the second program: the answers, and every entry of each lent buffer.
-// Document 01, "Refusal sheet"; document 02, R-3 and R-4. A check's number is the refusal by 1 to 5 that the second program's call gives.
+// Document 01, "Refusal sheet"; document 02, R-3, R-4 and R-5. A check's number is the refusal by 1 to 5 that the second program's call gives.
 
 use crate::lent::{lend, room};
 use crate::parts::{weights, Bytes, Parts};
@@ -219,10 +219,22 @@ fn cubes(p: &Parts, choice: u8) {
     assert_eq!(checked, verdict(told(count)), "the check");
 }
 
-/// The expanding of a list and its check.
+/// The expanding of a list; where its seeds are expanded, also with the total that they come to, one less and one more.
 fn expanding(p: &Parts, choice: u8) {
-    let (cells, stop, total) = (p.cells as u64, p.stop(), p.slices as u64);
-    let mut slices = vec![0; p.slices.min(2048)];
+    let total = match one_list(p, p.slices, choice) {
+        Ok(total) => total,
+        Err(Refused { number: 14, value }) => value as usize,
+        Err(_) => return,
+    };
+    for near in total.saturating_sub(1)..=total + 1 {
+        let _ = one_list(p, near, choice);
+    }
+}
+
+/// The expanding of a list with a total and its check: the second program's answer where there is space.
+fn one_list(p: &Parts, total: usize, choice: u8) -> Result<usize, Refused> {
+    let (cells, stop) = (p.cells as u64, p.stop());
+    let mut slices = vec![0; total.min(2048)];
     let theirs = second::expand(
         cells,
         p.taps,
@@ -231,7 +243,7 @@ fn expanding(p: &Parts, choice: u8) {
         &p.masks,
         stop.specified,
         stop.bits,
-        total,
+        total as u64,
         &p.seeds,
         &mut slices,
     );
@@ -242,11 +254,12 @@ fn expanding(p: &Parts, choice: u8) {
         _ => &[],
     };
     let ours = lend(room, written, entry, |out| {
-        entries::expand(p.machine(), stop, p.slices, &p.seeds, out)
+        entries::expand(p.machine(), stop, total, &p.seeds, out)
     });
     assert_eq!(ours, known, "the slices");
-    let checked = entries::check_list(p.machine(), stop, p.slices, p.seeds.len());
+    let checked = entries::check_list(p.machine(), stop, total, p.seeds.len());
     assert_eq!(checked, verdict(told(theirs)), "the check");
+    theirs
 }
 
 /// A flag beside the call: it has inverted chains of its own.

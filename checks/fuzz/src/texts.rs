@@ -1,5 +1,5 @@
 // The two text entries against the second program: the answer, every byte of the lent buffer, and the text itself.
-// Document 01, "Sheet and seed list" and "Refusal sheet".
+// Document 01, "Sheet and seed list" and "Refusal sheet"; document 02, R-5.
 
 use crate::lent::{lend, room};
 use crate::parts::tried;
@@ -76,8 +76,32 @@ pub fn sheet(text: &[u8], choice: u8) {
     }
 }
 
-/// A list through the expanding entry.
-pub fn list(text: &[u8], choice: u8) {
+/// The text with another total in its line of it.
+fn with_total(text: &[u8], total: usize) -> Vec<u8> {
+    let lines = text.split_inclusive(|&byte| byte == b'\n');
+    let other = lines.map(|line| match line.starts_with(b"slices=") {
+        true => format!("slices={total}\n").into_bytes(),
+        false => line.to_vec(),
+    });
+    other.collect::<Vec<_>>().concat()
+}
+
+/// One list through the expanding entry: what the second program prints.
+fn one_list(text: &[u8], choice: u8) -> Vec<u8> {
     let printed = second::expand_text(text);
     compare(raw::seeds_expand_text, text, &printed, b"slice=", choice);
+    printed
+}
+
+/// A list through the expanding entry; where its seeds are expanded, also with the total that they come to, one less and one more.
+pub fn list(text: &[u8], choice: u8) {
+    let printed = one_list(text, choice);
+    let total = match refusal(&printed) {
+        Some((14, total)) => total,
+        Some(_) => return,
+        None => lines(&printed, b"slice="),
+    };
+    for near in total.saturating_sub(1)..=total + 1 {
+        one_list(&with_total(text, near), choice);
+    }
 }

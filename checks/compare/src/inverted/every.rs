@@ -12,8 +12,9 @@ use crate::random::Random;
 use crate::report::{same, Outcome};
 use crate::runs::pool_of;
 use crate::seen::Seen;
-use crate::spares::{all_slices, numbered};
+use crate::spares::all_slices;
 use crate::window_limit::few;
+use crate::window_limit::lists::small_lists;
 
 /// How many chains have every mask tried.
 const CHAINS: std::ops::RangeInclusive<usize> = 1..=4;
@@ -64,12 +65,13 @@ fn any_set(random: &mut Random, chains: usize) -> Call {
 }
 
 /// What the second program must have met in sets and cubes.
-const REQUIRED: [&str; 6] = [
+const REQUIRED: [&str; 7] = [
     "accepted",
+    "the last window closes",
+    "the last window does not close",
     "several seeds",
     "8 with 0",
     "8 with some slices",
-    "8 with all slices but one",
     "refusal 9",
 ];
 
@@ -94,49 +96,31 @@ pub fn random_sets() -> Outcome {
         }
     }
     met.sets.require(&REQUIRED)?;
-    met.sets.require(&["refusal 7"])?;
+    met.sets
+        .require(&["refusal 7", "8 with all slices but one"])?;
     met.cubes.require(&REQUIRED)?;
-    met.cubes.require(&["a window across cubes"])?;
+    met.cubes
+        .require(&["a window across cubes", "8 with all slices but one"])?;
     Ok(count)
 }
 
 /// Register R: every set of up to two slices with every stop slice under every mask, and of three under the mask 2.
 pub fn every_small_set() -> Outcome {
-    let mut random = Random(83);
     let mut met = Met::default();
-    let slices = all_slices(2);
-    let mut count = 0;
-    for length in 1..=3 {
-        for number in 0..slices.len().pow(length as u32) {
-            let set = numbered(2, &slices, length, number);
-            for &stop in slices.iter().filter(|stop| stop.0 != 0) {
-                let mut call = bench::all_x(bench::of_r("1x", &[]), length);
-                (call.specified, call.bits) = (set.specified.clone(), set.bits.clone());
-                call.stop = stop;
-                for invert in (1..=3).filter(|&invert| length < 3 || invert == 2) {
-                    call.invert = invert;
-                    count += few::compare(&mut random, call.clone(), &mut met)?;
-                }
-            }
-        }
-    }
+    let masks = |length| match length {
+        3 => vec![(256, 2)],
+        _ => vec![(256, 1), (256, 2), (256, 3)],
+    };
+    let count = few::sets_of_r(&mut Random(83), masks, &mut met)?;
     met.sets.require(&REQUIRED)?;
+    met.sets.require(&["8 with all slices but one"])?;
     met.cubes.require(&REQUIRED)?;
     Ok(count)
 }
 
-/// One list by the model, the second program and the library, with enough space, one entry fewer and none.
+/// One list by the model, the second program and the library.
 fn compare_list(random: &mut Random, call: &Call, seen: &mut Seen) -> Outcome {
-    let mut slices = vec![0; call.slices];
-    let told = call.expand(&call.seeds, &mut slices);
-    let told = told.map(|count| slices[..count].to_vec());
-    same("the second program's slices", told, model::expanded(call))
-        .map_err(|why| format!("{why} of the list {call:x?}"))?;
-    let mut count = 1;
-    for room in [call.slices, call.slices.saturating_sub(1), 0] {
-        count += expands::compare(random, call, room, seen)?;
-    }
-    Ok(count)
+    expands::compare_known(random, call, model::expanded(call), seen)
 }
 
 /// Lists of small registers under every mask, with the stop slice turned and as it was.
@@ -148,7 +132,8 @@ pub fn lists() -> Outcome {
         for chains in CHAINS {
             let call = shaped(&mut random, 1 + round % 8, chains);
             let (mut call, total) = pool_of(&mut random, call).list(&mut random, 5);
-            call.slices = total.clamp(1, 2_048);
+            let any = random.between(0, total + 3);
+            call.slices = [total, any][round % 2].clamp(1, 2_048);
             for invert in 0..=all(chains) {
                 let same_stop = Call {
                     invert,
@@ -170,9 +155,7 @@ pub fn every_small_list() -> Outcome {
     let mut random = Random(85);
     let mut seen = Seen::default();
     let mut count = 0;
-    let one = (0..=8).map(|seed| vec![seed]);
-    let two = (0..81).map(|pair| vec![pair / 9, pair % 9]);
-    for seeds in one.chain(two) {
+    for seeds in small_lists() {
         for stop in all_slices(2).into_iter().filter(|stop| stop.0 != 0) {
             for (invert, limit) in [(0, 2), (1, 2), (2, 2), (3, 2), (1, 256), (2, 256), (3, 256)] {
                 let mut call = bench::of_r("1x", &["xx"]);
@@ -198,9 +181,9 @@ pub fn examples() -> Outcome {
     let (sheet, _) = bench::sheet_set();
     for (invert, seeds) in [
         (0, &[3, 3][..]),
-        (1, &[2, 6, 2]),
+        (1, &[2, 6, 0]),
         (2, &[5, 1]),
-        (3, &[4, 2, 6]),
+        (3, &[4, 0]),
     ] {
         let call = Call {
             invert,

@@ -4,8 +4,9 @@ use super::all as all_of;
 use crate::bench::LIST;
 use crate::call::refused;
 use crate::known::{self, Known};
+use crate::placed::{before, ended, later, out_of_place, put, refused_lines, whole, PLACE};
 use crate::text::{Program, Text};
-use crate::window_limit::lines::{self, later, put, whole, PLACE};
+use crate::window_limit::lines;
 
 /// What stands in the place of an invert line and is out of form.
 const OUT_OF_FORM: [&[u8]; 57] = [
@@ -88,12 +89,6 @@ const BEYOND: [&str; 16] = [
     "ffffffffffffffff",
 ];
 
-/// A text with lines in the place of an invert line, and its refusal.
-fn refused_lines(program: Program, lines: &[u8], number: u64, at: usize) -> Known {
-    let bytes = put(whole(program).as_bytes(), PLACE, lines);
-    (Text::new(program, bytes), refused(number, at))
-}
-
 /// Lines with digits behind the key, around the longest number and the longest line.
 fn long_lines(program: Program) -> Vec<Known> {
     let mut known = Vec::new();
@@ -101,30 +96,6 @@ fn long_lines(program: Program) -> Vec<Known> {
         let line = format!("invert={}\n", "1".repeat(length - 8));
         let number = if length <= 24 { 2 } else { 13 };
         known.push(refused_lines(program, line.as_bytes(), number, PLACE));
-    }
-    known
-}
-
-/// An invert line anywhere but in its place; also where one stands in its place.
-fn out_of_place(program: Program) -> Vec<Known> {
-    let text = whole(program).as_bytes();
-    let last = text.split_inclusive(|&byte| byte == b'\n').count();
-    let mut known = Vec::new();
-    for line in [
-        "invert=2\n",
-        "invert=0\n",
-        "invert=4\n",
-        "invert=\n",
-        "invert=2",
-    ] {
-        for place in (1..=last + 1).filter(|&place| place != PLACE) {
-            let bytes = put(text, place, line.as_bytes());
-            known.push((Text::new(program, bytes), refused(13, place)));
-        }
-        for place in (1..=last + 2).filter(|&place| place != PLACE) {
-            let bytes = put(&put(text, PLACE, b"invert=2\n"), place, line.as_bytes());
-            known.push((Text::new(program, bytes), refused(13, place)));
-        }
     }
     known
 }
@@ -155,54 +126,29 @@ const SEVERAL: [(&[u8], u64, usize); 22] = [
     (b"chain=0\ninvert=4\n", 13, 6),
 ];
 
-/// Changes of the lines before an invert line of 4, which is refused by 2 only where it is reached.
-const BEFORE: [(usize, &[u8], u64, usize); 9] = [
-    (1, b"cells=65\n", 1, 1),
-    (2, b"taps=3\n", 1, 2),
-    (2, b"taps=06\n", 13, 2),
-    (3, b"chains=65\n", 2, 3),
-    (3, b"chains=1\n", 13, 5),
-    (3, b"chains=3\n", 13, 6),
-    (4, b"chain=0\n", 2, 4),
-    (5, b"chain=8\n", 2, 5),
-    (5, b"chain=4\n", 2, 6),
+/// Lines that are tried anywhere but in their place.
+const ANYWHERE: [&str; 5] = [
+    "invert=2\n",
+    "invert=0\n",
+    "invert=4\n",
+    "invert=\n",
+    "invert=2",
 ];
 
-/// Several causes, and lines before an invert line.
-fn several(program: Program) -> Vec<Known> {
-    let mut known = Vec::new();
-    for (lines, number, at) in SEVERAL {
-        known.push(refused_lines(program, lines, number, at));
-    }
-    for (line, new, number, at) in BEFORE {
-        let bytes = known::with(whole(program), &[(line, new)]);
-        let bytes = put(&bytes, PLACE, b"invert=4\n");
-        known.push((Text::new(program, bytes), refused(number, at)));
-    }
-    known
-}
-
 /// The text ends with its invert line, within it, without its line feed, or with a window line behind it.
-fn ended(program: Program) -> Vec<Known> {
-    let head = whole(program).split_inclusive('\n').take(PLACE - 1);
-    let head: String = head.collect();
-    let ends = [
-        ("invert=0\n", 13, 7),
-        ("invert=2\n", 13, 7),
-        ("invert=4\n", 2, 6),
-        ("invert=2", 13, 6),
-        ("invert=4", 13, 6),
-        ("invert=", 13, 6),
-        ("invert=\n", 13, 6),
-        ("inv", 13, 6),
-        ("invert=2\nwindow=2\n", 13, 8),
-        ("invert=2\nwindow=2", 13, 7),
-        ("invert=2\nwind", 13, 7),
-    ];
-    let text = |end: &str| Text::new(program, format!("{head}{end}").into_bytes());
-    ends.map(|(end, number, at)| (text(end), refused(number, at)))
-        .to_vec()
-}
+const ENDS: [(&str, u64, usize); 11] = [
+    ("invert=0\n", 13, 7),
+    ("invert=2\n", 13, 7),
+    ("invert=4\n", 2, 6),
+    ("invert=2", 13, 6),
+    ("invert=4", 13, 6),
+    ("invert=", 13, 6),
+    ("invert=\n", 13, 6),
+    ("inv", 13, 6),
+    ("invert=2\nwindow=2\n", 13, 8),
+    ("invert=2\nwindow=2", 13, 7),
+    ("invert=2\nwind", 13, 7),
+];
 
 /// Every change of the lines behind the chain lines, those of window lines too, with an invert line of 0 before them, which changes nothing else.
 fn behind(program: Program) -> Vec<Known> {
@@ -238,26 +184,36 @@ fn accepted() -> Vec<Known> {
     known
 }
 
-/// The seed 0 with the stop 01: refused by 11 with chain 2 inverted, otherwise by 12.
+/// The seed 0 with the stop 01: refused by 11 with chain 2 inverted. Otherwise it is accepted where it is the last seed and no more slices than the limit are left, or refused by 12.
 fn seed_0() -> Vec<Known> {
-    let changes: [(usize, &[u8]); 4] = [
-        (6, b"stop=01\n"),
-        (7, b"slices=1\n"),
-        (8, b"seed=0\n"),
-        (9, b""),
+    let lists: [(&[u8], &[u8], bool); 4] = [
+        (b"slices=1\n", b"", true),
+        (b"slices=256\n", b"", true),
+        (b"slices=257\n", b"", false),
+        (b"slices=1\n", b"seed=0\n", false),
     ];
-    let list = known::with(LIST, &changes);
-    let lines: [(&[u8], u64); 5] = [
-        (b"", 12),
-        (b"invert=0\n", 12),
-        (b"invert=1\n", 12),
-        (b"invert=2\n", 11),
-        (b"invert=3\n", 12),
-    ];
-    let text = |line| Text::new(Program::Expand, put(&list, PLACE, line));
-    lines
-        .map(|(line, number)| (text(line), refused(number, 0)))
-        .to_vec()
+    let mut known = Vec::new();
+    for (slices, next, ends) in lists {
+        let changes: [(usize, &[u8]); 4] =
+            [(6, b"stop=01\n"), (7, slices), (8, b"seed=0\n"), (9, next)];
+        let list = known::with(LIST, &changes);
+        for line in [
+            &b""[..],
+            b"invert=0\n",
+            b"invert=1\n",
+            b"invert=2\n",
+            b"invert=3\n",
+        ] {
+            let answer = match (line, ends) {
+                (b"invert=2\n", _) => refused(11, 0),
+                (_, true) => Ok(()),
+                (_, false) => refused(12, 0),
+            };
+            let text = Text::new(Program::Expand, put(&list, PLACE, line));
+            known.push((text, answer));
+        }
+    }
+    known
 }
 
 /// A sheet or list of R with so many chains that all read cell 0, under a mask. From 2 and, where chain 1 is inverted, from 1 it delivers one slice and the stop.
@@ -308,9 +264,11 @@ pub fn all() -> Vec<Known> {
             known.push(refused_lines(program, line.as_bytes(), 2, PLACE));
         }
         known.extend(long_lines(program));
-        known.extend(out_of_place(program));
-        known.extend(several(program));
-        known.extend(ended(program));
+        known.extend(out_of_place(program, &ANYWHERE));
+        let several = SEVERAL.iter();
+        known.extend(several.map(|&(lines, number, at)| refused_lines(program, lines, number, at)));
+        known.extend(before(program, b"invert=4\n", 2));
+        known.extend(ended(program, &ENDS));
         known.extend(behind(program));
         known.extend(ranges(program));
     }

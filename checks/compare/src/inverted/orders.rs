@@ -1,12 +1,12 @@
 // Invert and window lines in every order: up to three of them behind the chain lines, lawful or not, and one of each anywhere. A sheet that is accepted is expanded back.
 
+use crate::placed::{put, whole, PLACE};
 use crate::programs::{compare_whole, Paths};
 use crate::random::Random;
 use crate::report::same;
 use crate::tally::Tally;
 use crate::text::{Program, Text};
 use crate::texts::compare;
-use crate::window_limit::lines::{put, whole, PLACE};
 use crate::window_limit::texts::expands_back;
 use second::Refused;
 

@@ -5,7 +5,7 @@ use crate::bench;
 use crate::call::{refused, Call};
 use crate::library::{self, Like, SliceAnswer, StateAnswer};
 use crate::report::{same, Outcome};
-use crate::window_limit::outside::{all_refused, all_told, unjudged};
+use crate::window_limit::outside::{refused_by, sheet_with_list, unjudged, with_faults, Fault};
 
 /// Masks with a chain beyond the two of R, also those whose last 8, 16 or 32 bits are lawful.
 const BEYOND: [u64; 12] = [
@@ -23,20 +23,9 @@ const BEYOND: [u64; 12] = [
     u64::MAX,
 ];
 
-/// A fault of a call, and the number by which all eight calls refuse it beside a mask beyond the chains.
-type Fault = (fn(&mut Call), u64);
-
-/// Faults of the register, which come before, none, and faults that come after.
-const FAULTS: [Fault; 18] = [
+/// No fault, and faults that come after.
+const LATER: [Fault; 10] = [
     (|_| {}, 2),
-    (|call| call.cells = 0, 1),
-    (|call| call.cells = 65, 1),
-    (|call| call.taps = 3, 1),
-    (|call| call.taps = 14, 1),
-    (|call| call.masks.clear(), 2),
-    (|call| call.masks.resize(65, 1), 2),
-    (|call| call.masks[1] = 0, 2),
-    (|call| call.masks[0] = 8, 2),
     (|call| call.limit = 0, 2),
     (|call| call.limit = 257, 2),
     (|call| (call.depth, call.slices) = (0, 0), 2),
@@ -50,10 +39,7 @@ const FAULTS: [Fault; 18] = [
 
 /// Each call with settings, refused by one number with 0; a step as if no chain were named.
 fn compare(call: &Call, number: u64) -> Outcome {
-    let mut count = all_told(call, number)?;
-    for room in [0, 1, 2, 8] {
-        count += all_refused(call, room, number)?;
-    }
+    let mut count = refused_by(call, number)?;
     for state in 0..=8 {
         let slice = library::slice(call.machine(), state);
         same("the slice", slice, SliceAnswer::like(refused(number, 0)))?;
@@ -68,18 +54,11 @@ fn compare(call: &Call, number: u64) -> Outcome {
 
 /// Document 01's sheet as a call with its list, under each mask beyond its chains and with each fault.
 fn of_r() -> Outcome {
-    let (mut lawful, seeds) = bench::sheet_set();
-    lawful.seeds = seeds.map_err(|refused| format!("{refused:?}"))?;
+    let mut call = sheet_with_list()?;
     let mut count = 0;
     for invert in BEYOND {
-        for (fault, number) in FAULTS {
-            let mut call = Call {
-                invert,
-                ..lawful.clone()
-            };
-            fault(&mut call);
-            count += compare(&call, number).map_err(|why| format!("{why} of {call:x?}"))?;
-        }
+        call.invert = invert;
+        count += with_faults(&call, &LATER, compare)?;
     }
     Ok(count)
 }

@@ -70,7 +70,7 @@ impl Given {
 }
 
 /// A small call, whole or damaged.
-fn small(random: &mut Random, given: Given) -> Call {
+pub fn small(random: &mut Random, given: Given) -> Call {
     let mut call = lawful(random, 5, 3, 6);
     given.set(random, &mut call);
     if random.one_in(2) {
@@ -128,22 +128,27 @@ pub fn slices(random: &mut Random, count: usize) -> Table {
     }
 }
 
+/// The question and answer of a set with a lent buffer of so many entries.
+pub fn set_row(call: &Call, room: usize) -> (String, String) {
+    let lent = vec![77; room];
+    let mut out = lent.clone();
+    let answer = call.encode_set(&mut out);
+    let lists = format!(
+        "{} {} {}",
+        list(&call.specified),
+        list(&call.bits),
+        list(&lent)
+    );
+    (
+        format!("encodeSet {} {} {lists}", settings(call), slice(call.stop)),
+        outcome(answer, &out),
+    )
+}
+
 pub fn sets(random: &mut Random, given: Given, count: usize) -> Table {
     let rows = (0..count).map(|_| {
         let call = small(random, given);
-        let lent = vec![77; random.between(0, 4)];
-        let mut out = lent.clone();
-        let answer = call.encode_set(&mut out);
-        let lists = format!(
-            "{} {} {}",
-            list(&call.specified),
-            list(&call.bits),
-            list(&lent)
-        );
-        (
-            format!("encodeSet {} {} {lists}", settings(&call), slice(call.stop)),
-            outcome(answer, &out),
-        )
+        set_row(&call, random.between(0, 4))
     });
     Table {
         name: given.name("sets"),
@@ -180,7 +185,7 @@ pub fn cubes(random: &mut Random, given: Given, count: usize) -> Table {
 }
 
 /// The call gets up to four seeds that run into its stop slice within the limit, and their total, where a small register has any.
-fn run_in(random: &mut Random, call: &mut Call) {
+pub fn run_in(random: &mut Random, call: &mut Call) {
     if call.cells > 5 {
         return;
     }
@@ -197,6 +202,18 @@ fn run_in(random: &mut Random, call: &mut Call) {
     }
 }
 
+/// The question and answer of a list with a lent buffer of so many entries.
+pub fn list_row(call: &Call, room: usize) -> (String, String) {
+    let lent = vec![77; room];
+    let mut out = lent.clone();
+    let answer = call.expand(&call.seeds, &mut out);
+    let rest = format!("{} {} {}", call.slices, list(&call.seeds), list(&lent));
+    (
+        format!("expandList {} {} {rest}", settings(call), slice(call.stop)),
+        outcome(answer, &out),
+    )
+}
+
 pub fn lists(random: &mut Random, given: Given, count: usize) -> Table {
     let rows = (0..count).map(|_| {
         let mut call = small(random, given);
@@ -208,14 +225,7 @@ pub fn lists(random: &mut Random, given: Given, count: usize) -> Table {
         if random.one_in(6) {
             call.seeds.push(random.bits(6));
         }
-        let lent = vec![77; random.between(0, 14)];
-        let mut out = lent.clone();
-        let answer = call.expand(&call.seeds, &mut out);
-        let rest = format!("{} {} {}", call.slices, list(&call.seeds), list(&lent));
-        (
-            format!("expandList {} {} {rest}", settings(&call), slice(call.stop)),
-            outcome(answer, &out),
-        )
+        list_row(&call, random.between(0, 14))
     });
     Table {
         name: given.name("lists"),

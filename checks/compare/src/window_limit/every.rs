@@ -26,16 +26,14 @@ fn free_window(window: &Call, states: &[u64], seen: &mut Seen) -> Outcome {
     windows::compare_known(window, known, seen)
 }
 
-/// The seeds of a set of all x: windows as long as the limit come first, and then the rest.
+/// The seeds of a set of all x: windows as long as the limit come first, and state 0 delivers what is left, up to the limit.
 fn free_seeds(set: &Call, states: &[u64]) -> Known {
     let (length, limit) = (set.specified.len(), set.limit);
     if length == 0 {
         return refused(3, 0);
     }
-    let mut seeds = vec![states[limit]; length / limit];
-    if !length.is_multiple_of(limit) {
-        seeds.push(states[length % limit]);
-    }
+    let mut seeds = vec![states[limit]; (length - 1) / limit];
+    seeds.push(0);
     Ok(seeds)
 }
 

@@ -42,15 +42,19 @@ pub fn compare(random: &mut Random, mut call: Call, met: &mut Met) -> Outcome {
 }
 
 /// What the second program must have met in sets and cubes at small limits.
-const REQUIRED: [&str; 7] = [
+const REQUIRED: [&str; 8] = [
     "accepted",
+    "the last window closes",
+    "the last window does not close",
     "several seeds",
     "8 with 0",
     "8 with some slices",
-    "8 with all slices but one",
     "refusal 9",
     "a window as long as the limit",
 ];
+
+/// What else there must be in sets, and in random cubes too.
+const BUT_ONE: [&str; 1] = ["8 with all slices but one"];
 
 /// Random sets of 1 to 5 cells at limits 1 to 4.
 pub fn random_sets() -> Outcome {
@@ -69,17 +73,22 @@ pub fn random_sets() -> Outcome {
         count += compare(&mut random, call, &mut met)?;
     }
     met.sets.require(&REQUIRED)?;
+    met.sets.require(&BUT_ONE)?;
     met.sets.require(&["refusal 3", "refusal 7"])?;
     met.sets
         .require(&["cut with a larger limit alone", "more seeds by the limit"])?;
     met.cubes.require(&REQUIRED)?;
+    met.cubes.require(&BUT_ONE)?;
     Ok(count)
 }
 
-/// Register R: every set of up to three slices with every stop slice, at the limits 1, 2 and 3.
-pub fn every_small_set() -> Outcome {
-    let mut random = Random(67);
-    let mut met = Met::default();
+/// Register R: every set of up to three slices with every stop slice, with the limits and inverted chains that are named for its length.
+/// Its last slice alone shows the stop or has a seed, so cubes are never refused by 8 with all slices but one.
+pub fn sets_of_r(
+    random: &mut Random,
+    settings: impl Fn(usize) -> Vec<(usize, u64)>,
+    met: &mut Met,
+) -> Outcome {
     let slices = all_slices(2);
     let mut count = 0;
     for length in 1..=3 {
@@ -89,14 +98,23 @@ pub fn every_small_set() -> Outcome {
                 let mut call = bench::all_x(bench::of_r("1x", &[]), length);
                 (call.specified, call.bits) = (set.specified.clone(), set.bits.clone());
                 call.stop = stop;
-                for limit in 1..=3 {
-                    call.limit = limit;
-                    count += compare(&mut random, call.clone(), &mut met)?;
+                for (limit, invert) in settings(length) {
+                    (call.limit, call.invert) = (limit, invert);
+                    count += compare(random, call.clone(), met)?;
                 }
             }
         }
     }
+    Ok(count)
+}
+
+/// Register R: every such set at the limits 1, 2 and 3.
+pub fn every_small_set() -> Outcome {
+    let mut met = Met::default();
+    let limits = |_| vec![(1, 0), (2, 0), (3, 0)];
+    let count = sets_of_r(&mut Random(67), limits, &mut met)?;
     met.sets.require(&REQUIRED)?;
+    met.sets.require(&BUT_ONE)?;
     met.cubes.require(&REQUIRED)?;
     Ok(count)
 }

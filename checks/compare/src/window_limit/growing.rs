@@ -66,7 +66,7 @@ fn sets(call: &Call, seen: &mut Seen) -> Outcome {
     Ok(count)
 }
 
-/// One list at every limit: refused by 12 up to some limit, and from there on as it is at 256.
+/// One list at every limit: refused by 12 up to some limit, and from there on as it is at 256, whatever its total.
 fn lists(call: &Call, seen: &mut Seen) -> Outcome {
     let mut call = call.clone();
     let expand = |call: &Call| {
@@ -113,7 +113,7 @@ fn any_set(random: &mut Random, round: usize) -> Call {
     }
 }
 
-/// A list of up to seven seeds that run into the stop, for a register of 9 to 64 cells.
+/// A list of up to seven seeds that run into the stop, for a register of 9 to 64 cells; every second has any total up to a few more than theirs.
 fn any_list(random: &mut Random, round: usize) -> Call {
     let run = longest(random, 9 + round % 56, 256);
     let mut call = bench::all_x(run.call.clone(), 0);
@@ -121,6 +121,9 @@ fn any_list(random: &mut Random, round: usize) -> Call {
         let steps = random.between(0, run.most());
         call.seeds.push(run.states[steps]);
         call.slices += steps;
+    }
+    if random.one_in(2) {
+        call.slices = random.between(1, call.slices + 5).min(2_048);
     }
     call
 }

@@ -1,13 +1,9 @@
 // Texts with window lines whose answers are known: the line out of form, out of range, twice and out of place, and every other line behind it.
 
-use crate::bench::{LIST, SHEET};
 use crate::call::refused;
 use crate::known::{self, Known};
+use crate::placed::{before, ended, later, out_of_place, put, refused_lines, whole, PLACE};
 use crate::text::{Program, Text};
-use second::Refused;
-
-/// The line of the sheet and of the list that a window line or an invert line stands before.
-pub const PLACE: usize = 6;
 
 /// What stands in the place of a window line and is out of form.
 const OUT_OF_FORM: [&[u8]; 62] = [
@@ -80,58 +76,13 @@ const OUT_OF_RANGE: [&str; 12] = [
     "0", "257", "258", "260", "300", "512", "999", "1000", "1024", "2048", "2049", "9999",
 ];
 
-/// Document 01's sheet or list.
-pub fn whole(program: Program) -> &'static str {
-    match program {
-        Program::Encode => SHEET,
-        Program::Expand => LIST,
-    }
-}
-
-/// The text with more before a line.
-pub fn put(text: &[u8], line: usize, more: &[u8]) -> Vec<u8> {
-    let mut lines: Vec<&[u8]> = text.split_inclusive(|&byte| byte == b'\n').collect();
-    lines.insert(line - 1, more);
-    lines.concat()
-}
-
-/// A text with a line in the place of a window line, and its refusal.
-fn refused_line(program: Program, line: &[u8], number: u64, at: usize) -> Known {
-    let bytes = put(whole(program).as_bytes(), PLACE, line);
-    (Text::new(program, bytes), refused(number, at))
-}
-
 /// Lines of every length around the longest, with digits behind the key.
 fn long_lines(program: Program) -> Vec<Known> {
     let lengths = [71, 79, 80, 81, 82, 160, 5_000];
     let line = |length: usize| format!("window={}\n", "1".repeat(length - 8));
     lengths
-        .map(|length| refused_line(program, line(length).as_bytes(), 13, PLACE))
+        .map(|length| refused_lines(program, line(length).as_bytes(), 13, PLACE))
         .to_vec()
-}
-
-/// A window line anywhere but in its place; also where one stands in its place.
-fn out_of_place(program: Program) -> Vec<Known> {
-    let text = whole(program).as_bytes();
-    let last = text.split_inclusive(|&byte| byte == b'\n').count();
-    let mut known = Vec::new();
-    for line in [
-        "window=2\n",
-        "window=256\n",
-        "window=0\n",
-        "window=\n",
-        "window=2",
-    ] {
-        for place in (1..=last + 1).filter(|&place| place != PLACE) {
-            let bytes = put(text, place, line.as_bytes());
-            known.push((Text::new(program, bytes), refused(13, place)));
-        }
-        for place in (1..=last + 2).filter(|&place| place != PLACE) {
-            let bytes = put(&put(text, PLACE, b"window=2\n"), place, line.as_bytes());
-            known.push((Text::new(program, bytes), refused(13, place)));
-        }
-    }
-    known
 }
 
 /// Lines in the place of a window line, with the refusal of the first of several causes.
@@ -150,63 +101,28 @@ const SEVERAL: [(&[u8], u64, usize); 12] = [
     (b"chain=0\nwindow=0\n", 13, 6),
 ];
 
-/// Changes of the lines before a window line of 0, which is refused by 3 only where it is reached.
-const BEFORE: [(usize, &[u8], u64, usize); 9] = [
-    (1, b"cells=65\n", 1, 1),
-    (2, b"taps=3\n", 1, 2),
-    (2, b"taps=06\n", 13, 2),
-    (3, b"chains=65\n", 2, 3),
-    (3, b"chains=1\n", 13, 5),
-    (3, b"chains=3\n", 13, 6),
-    (4, b"chain=0\n", 2, 4),
-    (5, b"chain=8\n", 2, 5),
-    (5, b"chain=4\n", 3, 6),
+/// Lines that are tried anywhere but in their place.
+const ANYWHERE: [&str; 5] = [
+    "window=2\n",
+    "window=256\n",
+    "window=0\n",
+    "window=\n",
+    "window=2",
 ];
 
-/// Several causes, and lines before a window line.
-fn several(program: Program) -> Vec<Known> {
-    let mut known = Vec::new();
-    for (lines, number, at) in SEVERAL {
-        known.push(refused_line(program, lines, number, at));
-    }
-    for (line, new, number, at) in BEFORE {
-        let bytes = known::with(whole(program), &[(line, new)]);
-        let bytes = put(&bytes, PLACE, b"window=0\n");
-        known.push((Text::new(program, bytes), refused(number, at)));
-    }
-    known
-}
-
 /// The text ends with its window line, within it, or without its line feed.
-fn ended(program: Program) -> Vec<Known> {
-    let head = whole(program).split_inclusive('\n').take(PLACE - 1);
-    let head: String = head.collect();
-    let ends = [
-        ("window=256\n", 13, 7),
-        ("window=2\n", 13, 7),
-        ("window=0\n", 3, 6),
-        ("window=257\n", 3, 6),
-        ("window=256", 13, 6),
-        ("window=2", 13, 6),
-        ("window=0", 13, 6),
-        ("window=", 13, 6),
-        ("window=\n", 13, 6),
-        ("wind", 13, 6),
-    ];
-    let text = |end: &str| Text::new(program, format!("{head}{end}").into_bytes());
-    ends.map(|(end, number, at)| (text(end), refused(number, at)))
-        .to_vec()
-}
-
-/// The refusal of a text that gets a line in this place: of a line behind it, one line later.
-pub fn later(answer: Result<(), Refused>) -> Result<(), Refused> {
-    answer.map_err(|mut refused| {
-        if matches!(refused.number, 1 | 2 | 3 | 5 | 13) && refused.value >= PLACE as u64 {
-            refused.value += 1;
-        }
-        refused
-    })
-}
+const ENDS: [(&str, u64, usize); 10] = [
+    ("window=256\n", 13, 7),
+    ("window=2\n", 13, 7),
+    ("window=0\n", 3, 6),
+    ("window=257\n", 3, 6),
+    ("window=256", 13, 6),
+    ("window=2", 13, 6),
+    ("window=0", 13, 6),
+    ("window=", 13, 6),
+    ("window=\n", 13, 6),
+    ("wind", 13, 6),
+];
 
 /// Every change of the lines behind the chain lines, with a window line that changes nothing else.
 fn behind(program: Program) -> Vec<Known> {
@@ -243,15 +159,17 @@ pub fn all() -> Vec<Known> {
     let mut known = accepted();
     for program in [Program::Encode, Program::Expand] {
         let form = OUT_OF_FORM.iter();
-        known.extend(form.map(|line| refused_line(program, line, 13, PLACE)));
+        known.extend(form.map(|line| refused_lines(program, line, 13, PLACE)));
         for number in OUT_OF_RANGE {
             let line = format!("window={number}\n");
-            known.push(refused_line(program, line.as_bytes(), 3, PLACE));
+            known.push(refused_lines(program, line.as_bytes(), 3, PLACE));
         }
         known.extend(long_lines(program));
-        known.extend(out_of_place(program));
-        known.extend(several(program));
-        known.extend(ended(program));
+        known.extend(out_of_place(program, &ANYWHERE));
+        let several = SEVERAL.iter();
+        known.extend(several.map(|&(lines, number, at)| refused_lines(program, lines, number, at)));
+        known.extend(before(program, b"window=0\n", 3));
+        known.extend(ended(program, &ENDS));
         known.extend(behind(program));
     }
     known

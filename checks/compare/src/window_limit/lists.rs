@@ -49,9 +49,17 @@ fn compare_list(random: &mut Random, call: &mut Call, told: List, seen: &mut See
     for room in [total, total - 1, 0] {
         count += compare(random, call, room, seen)?;
     }
-    for wrong in [total - 1, total + 1] {
+    let before = total - steps.last().unwrap_or(&0);
+    let near = [
+        total - 1,
+        total + 1,
+        before,
+        before + 1,
+        before + call.limit,
+    ];
+    for wrong in near {
         call.slices = wrong;
-        count += compare(random, call, total, seen)?;
+        count += compare(random, call, wrong, seen)?;
     }
     Ok(count)
 }
@@ -102,15 +110,20 @@ pub fn answers() -> Outcome {
     Ok(count)
 }
 
+/// Every list of one or two of R's states and a number beyond.
+pub fn small_lists() -> Vec<Vec<u64>> {
+    let one = (0..=8).map(|seed| vec![seed]);
+    let two = (0..81).map(|pair| vec![pair / 9, pair % 9]);
+    one.chain(two).collect()
+}
+
 /// Register R with every list of one or two of its states and a number beyond, every stop slice, the limits 1 to 4, 0 and 257, and totals up to 8.
 pub fn every_small_list() -> Outcome {
     let mut random = Random(64);
     let mut seen = Seen::default();
     let mut count = 0;
     let slices = crate::spares::all_slices(2);
-    let one = (0..=8).map(|seed| vec![seed]);
-    let two = (0..81).map(|pair| vec![pair / 9, pair % 9]);
-    let lists: Vec<Vec<u64>> = one.chain(two).collect();
+    let lists = small_lists();
     for &stop in &slices {
         for limit in [1, 2, 3, 4, 0, 257] {
             for seeds in &lists {

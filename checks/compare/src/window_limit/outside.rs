@@ -33,7 +33,7 @@ fn untouched<A>(room: usize, call: impl FnOnce(&mut [u64]) -> A) -> Result<A, St
 }
 
 /// The second program's calls, all refused by one number with 0.
-pub fn all_told(call: &Call, number: u64) -> Outcome {
+fn all_told(call: &Call, number: u64) -> Outcome {
     let told = [
         call.window_seed().map(|_| 0),
         call.encode_set(&mut []),
@@ -45,7 +45,7 @@ pub fn all_told(call: &Call, number: u64) -> Outcome {
 }
 
 /// The eight calls that judge the limit, all refused by one number with 0, with so many entries lent.
-pub fn all_refused(call: &Call, room: usize, number: u64) -> Outcome {
+fn all_refused(call: &Call, room: usize, number: u64) -> Outcome {
     let checks = [
         call.check_window(),
         call.check_set(),
@@ -64,12 +64,11 @@ pub fn all_refused(call: &Call, room: usize, number: u64) -> Outcome {
     Ok(8)
 }
 
-/// A fault of a call, and the number by which all eight calls refuse it at a limit outside.
-type Fault = (fn(&mut Call), u64);
+/// A fault of a call, and the number by which all these calls refuse it beside what is outside.
+pub type Fault = (fn(&mut Call), u64);
 
-/// Faults that come before the limit, none, and faults that come after it.
-const FAULTS: [Fault; 12] = [
-    (|_| {}, 3),
+/// Faults of the register and of the chains, which come first or are refused by the same number.
+pub const EARLIER: [Fault; 8] = [
     (|call| call.cells = 0, 1),
     (|call| call.cells = 65, 1),
     (|call| call.taps = 3, 1),
@@ -78,10 +77,42 @@ const FAULTS: [Fault; 12] = [
     (|call| call.masks.resize(65, 1), 2),
     (|call| call.masks[1] = 0, 2),
     (|call| call.masks[0] = 8, 2),
+];
+
+/// No fault, and faults that come after the limit.
+const LATER: [Fault; 4] = [
+    (|_| {}, 3),
     (|call| call.bits[0] = 7, 3),
     (|call| call.stop = (0, 0), 3),
     (|call| call.bits.truncate(3), 3),
 ];
+
+/// All calls, by the second program and by the library with several buffers, refused by one number with 0.
+pub fn refused_by(call: &Call, number: u64) -> Outcome {
+    let mut count = all_told(call, number)?;
+    for room in [0, 1, 2, 8] {
+        count += all_refused(call, room, number)?;
+    }
+    Ok(count)
+}
+
+/// Document 01's sheet as a call with its list.
+pub fn sheet_with_list() -> Result<Call, String> {
+    let (mut call, seeds) = bench::sheet_set();
+    call.seeds = seeds.map_err(|refused| format!("{refused:?}"))?;
+    Ok(call)
+}
+
+/// A call with each of the earlier faults and of these.
+pub fn with_faults(call: &Call, later: &[Fault], compare: fn(&Call, u64) -> Outcome) -> Outcome {
+    let mut count = 0;
+    for (fault, number) in EARLIER.iter().chain(later) {
+        let mut call = call.clone();
+        fault(&mut call);
+        count += compare(&call, *number).map_err(|why| format!("{why} of {call:x?}"))?;
+    }
+    Ok(count)
+}
 
 /// A step and a slice of a state, at any limit.
 pub fn unjudged(call: &Call, state: u64) -> Outcome {
@@ -92,27 +123,22 @@ pub fn unjudged(call: &Call, state: u64) -> Outcome {
     Ok(2)
 }
 
+/// All calls that judge the limit are refused; steps and slices are not.
+fn compare(call: &Call, number: u64) -> Outcome {
+    let mut count = refused_by(call, number)?;
+    for state in 0..=8 {
+        count += unjudged(call, state)?;
+    }
+    Ok(count)
+}
+
 /// Document 01's sheet as a call with its list, at each limit outside and with each fault.
 pub fn answers() -> Outcome {
-    let (mut lawful, seeds) = bench::sheet_set();
-    lawful.seeds = seeds.map_err(|refused| format!("{refused:?}"))?;
+    let mut call = sheet_with_list()?;
     let mut count = 0;
     for limit in OUTSIDE {
-        for (fault, number) in FAULTS {
-            let mut call = Call {
-                limit,
-                ..lawful.clone()
-            };
-            fault(&mut call);
-            count += all_told(&call, number).map_err(|why| format!("{why} of {call:x?}"))?;
-            for room in [0, 1, 2, 8] {
-                count += all_refused(&call, room, number)
-                    .map_err(|why| format!("{why} of {call:x?}"))?;
-            }
-            for state in 0..=8 {
-                count += unjudged(&call, state).map_err(|why| format!("{why} of {call:x?}"))?;
-            }
-        }
+        call.limit = limit;
+        count += with_faults(&call, &LATER, compare)?;
     }
     Ok(count)
 }

@@ -1,10 +1,10 @@
 // Sheets and lists at every limit, without a window line and with it: the list repeats the line exactly when the sheet has it, and expands back.
 
 use super::delivery::packed;
-use super::lines::put;
 use super::LAWFUL;
 use crate::bench::{LIST, SHEET};
 use crate::call::Call;
+use crate::placed::put;
 use crate::programs::{self, agree, Paths};
 use crate::random::Random;
 use crate::report::same;
