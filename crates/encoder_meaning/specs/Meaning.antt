@@ -16,9 +16,8 @@ use Rattle.refusal_causes.specs.declared.Written.the-variants.{Count, Refused}
 use Rattle.refusal_causes.specs.Outcome.{Outcome, refuse, fill}
 use Rattle.machine_slices.specs.declared.TestSlice.{TestSlice}
 use Rattle.theory_cutting.specs.Cutting.{Cutting, Covering, delivered}
-use Rattle.theory_covering.specs.Rules.{Rules, rules}
+use Rattle.theory_covering.specs.Rules.{Rules, rules, closedRules}
 use Rattle.theory_covering.specs.Windows.{CoveredBy, Window}
-use Rattle.theory_covering.specs.Starts.{closedRules}
 use Rattle.machine_settings.specs.declared.Settings.{Settings}
 use Rattle.machine_settings.specs.Machine.{Machine, machine}
 use Rattle.machine_slices.specs.Slices.{agrees, paired}

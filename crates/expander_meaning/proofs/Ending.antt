@@ -1,5 +1,6 @@
 -- What a seed delivers, by the number q of its slices 0 to limit that come before its stop.
 --     before M R stop s            this number
+--     stops-within, stops-never    the stop first shows right behind them, or in none of slices 0 to limit
 --     gives-none, gives-open, gives-closed, gives-endless     slice 0 shows the stop: 11; a last seed with at most the limit left delivers what is left, or as far as its stop; any other seed as far as its stop; where none shows: 12
 --     beyond-states                a seed that is no state: 10
 --     Delivered, delivered         what a seed that delivers m slices is: read the other way round
@@ -32,7 +33,7 @@ unfolding ending
 ending-open place left zero h = absurd (omega arith)
 ending-open place left (suc q) h = refl
 
-pub ending-closed : (place left q : ℕ) → 0 < q → ending place false left (some q) ≡ gives q
+ending-closed : (place left q : ℕ) → 0 < q → ending place false left (some q) ≡ gives q
 unfolding ending
 ending-closed place left zero h = absurd (omega arith)
 ending-closed place left (suc q) h = refl
@@ -48,10 +49,10 @@ module _ (M : Machine) (R : Rules) (stop : TestSlice) (place : ℕ) (last : Bool
   unfolding delivers
   beyond-states h = rw (le-ltb s (M .states) h, delivers)
 
-  stops-within : q ≤ R .limit → firstStop M stop (suc (R .limit)) s ≡ some q
+  pub stops-within : q ≤ R .limit → firstStop M stop (suc (R .limit)) s ≡ some q
   stops-within h = until-stop M stop (suc (R .limit)) s ∙ at-within (suc (R .limit)) q (omega arith)
 
-  stops-never : R .limit < q → firstStop M stop (suc (R .limit)) s ≡ none
+  pub stops-never : R .limit < q → firstStop M stop (suc (R .limit)) s ≡ none
   stops-never h = until-stop M stop (suc (R .limit)) s ∙ at-never (suc (R .limit)) q h
 
   module _ (state : s < M .states) where

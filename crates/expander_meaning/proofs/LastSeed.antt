@@ -20,9 +20,9 @@ use Rattle.expander_meaning.specs.Run.{slicesOf, firstStop, gives, deliv
 use Rattle.expander_meaning.specs.Until.{untilStop}
 use Rattle.expander_meaning.specs.Expanding.{ran, after, isLast, walk}
 use Rattle.expander_meaning.specs.LastSeed.{LastSeed}
-use Rattle.expander_meaning.proofs.Until.{until-more, until-here, until-front, until-slices, until-stop, at-within, at-never}
+use Rattle.expander_meaning.proofs.Until.{until-more, until-here, until-front, until-slices}
 use Rattle.expander_meaning.proofs.OneSeed.{walk-fails, walk-idle, walk-gives}
-use Rattle.expander_meaning.proofs.Ending.{before, beyond-states, gives-none, gives-open, gives-closed, gives-endless}
+use Rattle.expander_meaning.proofs.Ending.{before, stops-within, stops-never, beyond-states, gives-none, gives-open, gives-closed, gives-endless}
 
 module _ (M : Machine) (R : Rules) (n place done s : ℕ) (unclosed : R .openEnd ≡ true) where
   abbrev stop : TestSlice
@@ -64,14 +64,14 @@ module _ (M : Machine) (R : Rules) (n place done s : ℕ) (unclosed : R .openEnd
 
     stop-before : (t : ℕ) → firstStop M stop (suc (R .limit)) s ≡ some t → (q ≡ t) × (q ≤ R .limit)
     stop-before t e = ⊎-elim
-        (λ l. let f = sym e ∙ until-stop M stop (suc (R .limit)) s ∙ at-never (suc (R .limit)) q l in absurd (let z : _≡_ {A = ℕ} 0 1 = cc in omega arith))
-        (λ l. let f = sym e ∙ until-stop M stop (suc (R .limit)) s ∙ at-within (suc (R .limit)) q (omega arith) in (cc, l))
+        (λ l. absurd (let f = sym e ∙ stops-never M R stop place last (n - done) s l in let z : _≡_ {A = ℕ} 0 1 = cc in omega arith))
+        (λ l. ((let f = sym e ∙ stops-within M R stop place last (n - done) s l in cc), l))
         (lt-or-le (R .limit) q)
 
     no-stop : firstStop M stop (suc (R .limit)) s ≡ none → R .limit < q
     no-stop e = ⊎-elim
         (λ l. l)
-        (λ l. let f = sym e ∙ until-stop M stop (suc (R .limit)) s ∙ at-within (suc (R .limit)) q (omega arith) in absurd (let z : _≡_ {A = ℕ} 0 1 = cc in omega arith))
+        (λ l. absurd (let f = sym e ∙ stops-within M R stop place last (n - done) s l in let z : _≡_ {A = ℕ} 0 1 = cc in omega arith))
         (lt-or-le (R .limit) q)
 
   pub last-seed : LastSeed M R n place done s

@@ -7,7 +7,7 @@ use mathlib.Core.Bool.{Bool, true, false, _&&_, not}
 use mathlib.Core.List.{List, [], _∷_, _++_}
 use Prim.Native.Nat.{ℕ, suc, _+_, _-_, _≤_, _<_, min}
 use native.Mathlib.Omega.{arith}
-use lib.Dec.{eqb, leb}
+use lib.Dec.{eqb}
 use lib.ListN.{length, drop, length-take, length-drop, take-append-drop, drop-of-length-le}
 use lib.Seq.{drop-drop}
 use borrow.Author.Tests.{eq-eqb, ne-eqb, le-leb, eqb-true}
@@ -60,9 +60,6 @@ module _ (M : Machine) (R : Rules) (set : List TestSlice) where
     unfolding closes
     window-delivers place last same = rw same (go (R .openEnd && eqb k n) refl)
       where
-        flag : Bool → Bool
-        flag o = o && leb (n - a) (R .limit)
-
         go : (o : Bool) → (R .openEnd && eqb k n) ≡ o → delivers M R (R .live a) place (R .openEnd && eqb k n) (n - a) s ≡ gives (k - a)
         go true o =
             let b = bounds in

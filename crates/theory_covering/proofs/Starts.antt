@@ -12,9 +12,9 @@ use borrow.Author.Tests.{ne-eqb}
 use Rattle.machine_settings.specs.Machine.{Machine}
 use Rattle.machine_slices.specs.declared.TestSlice.{TestSlice}
 use Rattle.theory_cutting.specs.Cutting.{Cutting, no-window, window, Covering, no-state, state}
-use Rattle.theory_covering.specs.Rules.{Rules}
+use Rattle.theory_covering.specs.Rules.{Rules, closedRules}
 use Rattle.theory_covering.specs.Windows.{far, placed, closes, coversPart, CoveredBy, Window}
-use Rattle.theory_covering.specs.Starts.{closedRules, StartsClosed}
+use Rattle.theory_covering.specs.Starts.{StartsClosed}
 use Rattle.theory_covering.proofs.Places.{placed-parts}
 
 module _ (M : Machine) (set : List TestSlice) where

@@ -3,6 +3,7 @@
 --     Raised small large     the rules `large` are the rules `small` with a limit that is not smaller (document 02, R-3)
 --     segmentRules g stop closing   the rules of a segment under a call's settings: no edge within, one stop slice, and a window that ends the segment closes with its stop where `closing` says so
 --     rules g stop   the rules of a set: it is one segment, and its last window need not close with its stop (document 02, R-5)
+--     closedRules R  the rules R, but every window closes with its stop
 use mathlib.Core.Path.{_≡_}
 use mathlib.Core.Bool.{Bool, false, not}
 use mathlib.Core.List.{List, []}
@@ -27,3 +28,6 @@ segmentRules g stop closing = record { limit = g .limit; edges = []; live = λ _
 
 abbrev pub rules : Settings → TestSlice → Rules
 rules g stop = segmentRules g stop false
+
+abbrev pub closedRules : Rules → Rules
+closedRules R = record { limit = R .limit; edges = R .edges; live = R .live; openEnd = false }

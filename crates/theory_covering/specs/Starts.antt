@@ -1,7 +1,5 @@
 -- The starts of a set, where its last window need not close with its stop (document 02, R-5: "Refusal 8 counts only starts whose windows all close with the stop").
---     closedRules R            the rules R, but every window closes with its stop
 --     StartsClosed M R set     the law: a row of windows that ends before the set does is one of windows that all close, and the other way round
-use mathlib.Core.Bool.{false}
 use mathlib.Core.List.{List}
 use mathlib.Core.Logic.{_↔_}
 use Prim.Native.Nat.{ℕ, _<_}
@@ -9,11 +7,8 @@ use lib.ListN.{length}
 use Rattle.machine_settings.specs.Machine.{Machine}
 use Rattle.machine_slices.specs.declared.TestSlice.{TestSlice}
 use Rattle.theory_cutting.specs.Cutting.{Cutting, Covering}
-use Rattle.theory_covering.specs.Rules.{Rules}
+use Rattle.theory_covering.specs.Rules.{Rules, closedRules}
 use Rattle.theory_covering.specs.Windows.{CoveredBy, Window}
-
-abbrev pub closedRules : Rules → Rules
-closedRules R = record { limit = R .limit; edges = R .edges; live = R .live; openEnd = false }
 
 pub record StartsClosed (M : Machine) (R : Rules) (set : List TestSlice) : Type 0 where
   pub cut : {a b : ℕ} {es : List ℕ} → b < length set → Cutting (Window M R set) a es b ↔ Cutting (Window M (closedRules R) set) a es b
