@@ -1,4 +1,6 @@
 // The encoding program: a sheet from standard input, its seed list or the refusal to standard output.
+#![tactic(auto)]
+
 ghost use Rattle.std.specs.Prelude.{◌≡◌, ◌++◌, ◌≤◌, length, drop};
 ghost use Rattle.io.specs.Counts.{IsPrefixLen};
 ghost use Rattle.text_bounds.specs.Bounds.{most_text};

@@ -1,4 +1,6 @@
 // The encoding of cubes (document 01, "Covering and cutting"): their stop slice, then as for a set.
+#![tactic(auto)]
+
 ghost use Rattle.std.specs.Prelude.{◌≡◌};
 ghost use Rattle.encoder_cubes.specs.Cubes.{cubes_encoding, encode_cubes, stopped};
 ghost use Rattle.encoder_cubes.specs.Formed.{CubesFormed};

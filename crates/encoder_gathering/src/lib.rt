@@ -1,4 +1,6 @@
 // The windows of a segment of a set (document 01, "Covering and cutting"): from its first slice on, the longest window that some state covers, and its seed.
+#![tactic(auto)]
+
 ghost use Rattle.std.specs.Prelude.{Bool, false, ◌≡◌, suc, min, ◌≤◌, length};
 ghost use Rattle.std.proofs.lemmas.List.Edits.{sets};
 ghost use Rattle.machine_settings.specs.Machine.{machine};

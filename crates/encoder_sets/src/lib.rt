@@ -1,4 +1,6 @@
 // The encoding of a set with its stop slice (document 01, "Covering and cutting").
+#![tactic(auto)]
+
 ghost use Rattle.std.specs.Prelude.{◌≡◌};
 ghost use Rattle.machine_settings.specs.Machine.{none_inverted, machine};
 ghost use Rattle.machine_slices.specs.Slices.{paired};

@@ -1,11 +1,13 @@
 // The answer for the windows of a set that were gathered: the seeds, cause 8 or cause 9.
+#![tactic(auto)]
+
 ghost use Rattle.std.specs.Prelude.{◌++◌, ◌≡◌, ◌≤◌, drop, length, take};
 ghost use Rattle.encoder_settling.specs.Settling.{settled};
 
 use refusal_causes::{Cause, Written};
 
 // How far the windows of a set lead, and how many they are.
-#[derive(Drop)]
+#[derive(Clone, Copy)]
 pub struct Gathered {
     pub place: usize,
     pub count: usize,

@@ -1,1 +1,2 @@
 // Worked texts, as one table with one proof over it, about the definitions: no code.
+#![tactic(auto)]

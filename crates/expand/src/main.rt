@@ -1,4 +1,6 @@
 // The expanding program: a seed list from standard input, its slices or the refusal to standard output.
+#![tactic(auto)]
+
 ghost use Rattle.std.specs.Prelude.{◌≡◌, ◌++◌, ◌≤◌, length, drop};
 ghost use Rattle.io.specs.Counts.{IsPrefixLen};
 ghost use Rattle.text_bounds.specs.Bounds.{most_text};

@@ -1,4 +1,6 @@
 // The expanding of a seed list back to slices (document 01, "Register and chains" and causes 10, 11, 12, 14 and 9 of its refusal sheet).
+#![tactic(auto)]
+
 ghost use Rattle.std.specs.Prelude.{◌≡◌, ◌≤◌, length};
 ghost use Rattle.machine_settings.specs.Machine.{register_of, machine};
 ghost use Rattle.theory_covering.specs.Rules.{rules};

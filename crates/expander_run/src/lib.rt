@@ -1,4 +1,6 @@
 // How many slices one seed of a list delivers (document 01, causes 10, 11 and 12 of its refusal sheet; document 02, R-5: the last seed need not close).
+#![tactic(auto)]
+
 ghost use Rattle.std.specs.Prelude.{◌≡◌, ◌≤◌, length};
 ghost use Rattle.refusal_lengths.specs.Lengths.{most_limit};
 ghost use Rattle.machine_settings.specs.Machine.{register_of, machine};

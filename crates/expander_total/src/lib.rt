@@ -1,4 +1,6 @@
 // How many slices the seeds of a list deliver (document 01, causes 10, 11 and 12 of its refusal sheet; document 02, R-5: a last seed with nothing left to deliver is cause 14).
+#![tactic(auto)]
+
 ghost use Rattle.std.specs.Prelude.{◌≡◌, ◌-◌, ◌≤◌, length};
 ghost use Rattle.machine_settings.specs.Machine.{register_of, machine};
 ghost use Rattle.theory_covering.specs.Rules.{rules};

@@ -1,4 +1,6 @@
 // The slices of the seeds of a list, written into a buffer. Each seed ends at its stop, the last one where the slices end (document 02, R-5).
+#![tactic(auto)]
+
 ghost use Rattle.std.specs.Prelude.{◌≡◌, List, ℕ, ◌+◌, ◌-◌, ◌≤◌, length};
 ghost use Rattle.std.proofs.lemmas.List.Edits.{sets};
 ghost use Rattle.machine_settings.specs.Machine.{register_of, machine};

@@ -1,4 +1,6 @@
 // The answers of the entries for C and Rust: structs of numbers, made from what the crates below answer.
+#![tactic(auto)]
+
 ghost use Rattle.std.specs.Prelude.{◌≡◌};
 ghost use Rattle.face_answers.specs.Answers.{answer_of, cubes_answer_of, seed_answer_of, text_answer_of};
 
@@ -8,7 +10,7 @@ use theory_covering::Seed;
 
 // The answer of a call that writes into a lent buffer: number 0 with the entries written, or the number and value of the refusal.
 #[repr(C)]
-#[derive(Drop)]
+#[derive(Clone, Copy)]
 pub struct Answer {
     pub number: usize,
     pub value: usize,
@@ -16,7 +18,7 @@ pub struct Answer {
 
 // The answer of the call for a window's seed: number 0 with the seed, or the number and value of the refusal, and seed 0.
 #[repr(C)]
-#[derive(Drop)]
+#[derive(Clone, Copy)]
 pub struct SeedAnswer {
     pub number: usize,
     pub value: usize,
@@ -25,7 +27,7 @@ pub struct SeedAnswer {
 
 // The answer of the call for cubes: number 0 with the seeds written and the stop slice, or the number and value of the refusal, and no position.
 #[repr(C)]
-#[derive(Drop)]
+#[derive(Clone, Copy)]
 pub struct CubesAnswer {
     pub number: usize,
     pub value: usize,
@@ -35,7 +37,7 @@ pub struct CubesAnswer {
 
 // The answer of a text call: number 0 with the bytes written and how many seeds or slices they say; or the number and value of the refusal, and beside cause 9 how many seeds or slices enough space would have given, else 0.
 #[repr(C)]
-#[derive(Drop)]
+#[derive(Clone, Copy)]
 pub struct TextAnswer {
     pub number: usize,
     pub value: usize,

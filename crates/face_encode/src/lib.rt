@@ -1,4 +1,6 @@
 // The entries for encoding: the seeds of a set and of cubes.
+#![tactic(auto)]
+
 ghost use Rattle.std.specs.Prelude.{◌≡◌};
 ghost use Rattle.encoder_meaning.specs.Encoding.{encode_set};
 ghost use Rattle.encoder_cubes.specs.Cubes.{encode_cubes};

@@ -1,4 +1,6 @@
 // The entry for expanding: the slices of a seed list.
+#![tactic(auto)]
+
 ghost use Rattle.std.specs.Prelude.{◌≡◌};
 ghost use Rattle.expander_meaning.specs.Expanding.{expand_list};
 ghost use Rattle.face_values.specs.Values.{settings_of, test_slice_of};

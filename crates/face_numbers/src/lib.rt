@@ -1,4 +1,6 @@
 // The entries on numbers: a step, a slice, and the stop slice.
+#![tactic(auto)]
+
 ghost use Rattle.std.specs.Prelude.{◌≡◌};
 ghost use Rattle.stop_slice.specs.Entry.{stop_of};
 ghost use Rattle.stop_slice.specs.Meaning.{FormedMeaning};
@@ -14,7 +16,7 @@ use stop_slice::Formed;
 
 // The answer of the call for a step: number 0 with the state after it, or the number and value of the refusal, and state 0.
 #[repr(C)]
-#[derive(Drop)]
+#[derive(Clone, Copy)]
 pub struct StateAnswer {
     pub number: usize,
     pub value: usize,
@@ -23,7 +25,7 @@ pub struct StateAnswer {
 
 // The answer of the call for a slice: number 0 with the slice, or the number and value of the refusal, and slice 0.
 #[repr(C)]
-#[derive(Drop)]
+#[derive(Clone, Copy)]
 pub struct SliceAnswer {
     pub number: usize,
     pub value: usize,
@@ -32,7 +34,7 @@ pub struct SliceAnswer {
 
 // The answer of the call for a stop slice: number 0 with the stop slice, or the number and value of the refusal, and no position.
 #[repr(C)]
-#[derive(Drop)]
+#[derive(Clone, Copy)]
 pub struct StopAnswer {
     pub number: usize,
     pub value: usize,

@@ -1,4 +1,6 @@
 // The entries on texts, by the kind of text: a sheet to its seed list, a seed list to its slices.
+#![tactic(auto)]
+
 ghost use Rattle.std.specs.Prelude.{◌≡◌};
 ghost use Rattle.text_calls.specs.Texts.{call_of};
 ghost use Rattle.text_meaning.specs.Calls.{TextMeaning};

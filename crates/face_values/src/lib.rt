@@ -1,10 +1,12 @@
 // Numbers at the boundary: the settings that C and Rust hand in.
+#![tactic(auto)]
+
 ghost use Rattle.std.specs.Prelude.{◌≡◌};
 ghost use Rattle.face_values.specs.Values.{settings_of};
 
 // The register and the settings of a call, as C and Rust hand them in: its cells and taps, the most slices of a window, and the inverted chains, in slice weights. A setting more is a field more.
 #[repr(C)]
-#[derive(Drop)]
+#[derive(Clone, Copy)]
 pub struct Settings {
     pub cells: usize,
     pub taps: u64,

@@ -1,4 +1,6 @@
 // The entry for a window: its seed.
+#![tactic(auto)]
+
 ghost use Rattle.std.specs.Prelude.{◌≡◌};
 ghost use Rattle.theory_covering.specs.Single.{window_seed, WindowMeaning};
 ghost use Rattle.face_values.specs.Values.{settings_of, test_slice_of};

@@ -1,4 +1,6 @@
 // The chains (document 01, "Register and chains"): the slice of a state, and the checks behind cause 2.
+#![tactic(auto)]
+
 ghost use Rattle.std.specs.Prelude.{◌≡◌, take};
 ghost use Rattle.words_bounded.specs.Bounded.{any};
 ghost use Rattle.machine_chains.specs.Chains.{bad_count, bad_mask, bad_chains, slice as slice_of};

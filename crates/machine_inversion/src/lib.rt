@@ -1,4 +1,6 @@
 // Inverted chains (document 02, R-4): settings and test slices as the search sees them, with the specified bits at inverted chains flipped and no chain inverted.
+#![tactic(auto)]
+
 ghost use Rattle.std.specs.Prelude.{◌++◌, ◌≡◌, ◌≤◌, drop, length};
 ghost use Rattle.machine_inversion.specs.Inversion.{flipped, flipped_bits, upright as upright_of};
 

@@ -1,18 +1,20 @@
 // The shift register (document 01, "Register and chains"): the step, and the check behind cause 1.
+#![tactic(auto)]
+
 ghost use Rattle.std.specs.Prelude.{◌≡◌};
 ghost use Rattle.machine_register.specs.Register.{bad_register, made_of, step_of};
 
 use refusal_causes::Cause;
 
 // A register. The constructor judges cells and taps; the step is total without that.
-#[derive(Drop)]
+#[derive(Clone, Copy)]
 pub struct Register {
     pub cells: usize,
     pub taps: u64,
 }
 
 // What the constructor answers: the register, or cause 1.
-#[derive(Drop)]
+#[derive(Clone, Copy)]
 pub enum Made {
     Register(Register),
     Refused(Cause),

@@ -1,4 +1,6 @@
 // The settings of a call and the slice of a state under them (document 01, "Register and chains", and "Covering and cutting" on the longest window; document 02, R-3 and R-4).
+#![tactic(auto)]
+
 ghost use Rattle.std.specs.Prelude.{◌≡◌, take};
 ghost use Rattle.machine_settings.specs.Machine.{machine, bad_chains_of};
 
@@ -11,7 +13,7 @@ pub const DEFAULT_LIMIT: usize = Register::LONGEST_WINDOW;
 pub const NONE_INVERTED: u64 = 0;
 
 // The settings of a call, as they are handed in and not yet judged: cells and taps of its register, the most slices of a window, and the chains that deliver the opposite bit, in slice weights.
-#[derive(Drop)]
+#[derive(Clone, Copy)]
 pub struct Settings {
     pub cells: usize,
     pub taps: u64,

@@ -1,9 +1,11 @@
 // Test slices and stop slices (document 01, "Register and chains"): agreeing, showing, and the checks behind causes 4 and 5.
+#![tactic(auto)]
+
 ghost use Rattle.std.specs.Prelude.{◌≡◌};
 ghost use Rattle.machine_slices.specs.Slices.{agrees as agrees_of, shows as shows_of, bad_slice, bad_slices, bad_stop};
 
 // A test slice or stop slice: its specified positions, and its bits there.
-#[derive(Drop)]
+#[derive(Clone, Copy)]
 pub struct TestSlice {
     pub specified: u64,
     pub bits: u64,

@@ -1,8 +1,10 @@
 // The causes of refusal, with what each carries, and the number and value of document 01's refusal sheet.
+#![tactic(auto)]
+
 ghost use Rattle.std.specs.Prelude.{◌≡◌};
 ghost use Rattle.refusal_causes.specs.Sheet.{line_of, refusal_of};
 
-#[derive(Drop)]
+#[derive(Clone, Copy)]
 pub enum Cause {
     // The register: its cells or its taps.
     Register,
@@ -35,14 +37,14 @@ pub enum Cause {
 }
 
 // A line of the refusal sheet: the cause's number, and what is returned beside it.
-#[derive(Drop)]
+#[derive(Clone, Copy)]
 pub struct Refusal {
     pub number: usize,
     pub value: usize,
 }
 
 // The answer of a call that writes into a lent buffer: how many entries it wrote, or why none.
-#[derive(Drop)]
+#[derive(Clone, Copy)]
 pub enum Written {
     Count(usize),
     Refused(Cause),

@@ -1,4 +1,6 @@
 // The checks behind causes 1 to 5 (document 01, "Refusal sheet"), for each kind of call.
+#![tactic(auto)]
+
 ghost use Rattle.std.specs.Prelude.{◌≡◌};
 ghost use Rattle.refusal_order.specs.Order.{judged};
 ghost use Rattle.refusal_checks.specs.Calls.{limited, call_faults, window_faults, set_faults, cubes_faults, list_faults, stop_faults};

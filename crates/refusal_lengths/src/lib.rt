@@ -1,4 +1,6 @@
 // Lengths (document 01, cause 3 of its refusal sheet; document 02, R-3).
+#![tactic(auto)]
+
 ghost use Rattle.std.specs.Prelude.{◌≡◌};
 ghost use Rattle.refusal_lengths.specs.Lengths.{bad_limit, bad_window, bad_set, bad_cubes, bad_list};
 

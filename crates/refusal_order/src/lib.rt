@@ -1,11 +1,13 @@
 // The order of causes 1 to 5 (document 01, under its refusal sheet).
+#![tactic(auto)]
+
 ghost use Rattle.std.specs.Prelude.{◌≡◌};
 ghost use Rattle.refusal_order.specs.Order.{judged};
 
 use refusal_causes::Cause;
 
 // Which of causes 1 to 5 hold for what a call hands in. A call that lacks a part is not refused by its cause.
-#[derive(Drop)]
+#[derive(Clone, Copy)]
 pub struct Faults {
     pub register: bool,
     pub chains: bool,
@@ -15,7 +17,7 @@ pub struct Faults {
 }
 
 // What the checks answer.
-#[derive(Drop)]
+#[derive(Clone, Copy)]
 pub enum Verdict {
     WellFormed,
     Refused(Cause),

@@ -1,4 +1,6 @@
 // Branch and bound for the lowest member of a space that shows a pattern in no row of a table; a space of few vectors is a leaf and is gone through 64 members at a time.
+#![tactic(auto)]
+
 ghost use Rattle.std.specs.Prelude.{true, ◌≡◌, ◌*◌, ◌≤◌, length, take};
 ghost use Rattle.search_space.specs.Space.{Rising};
 ghost use Rattle.search_rows.specs.Leaf.{LeafSized};

@@ -1,4 +1,6 @@
 // The members of a leaf, a space of few vectors, that its words rule out: 64 of them, a group, at a time.
+#![tactic(auto)]
+
 ghost use Rattle.std.specs.Prelude.{◌≡◌, ℕ, ◌+◌, ◌*◌, ◌≤◌, ◌<◌, length};
 ghost use Rattle.words_gf2.specs.Words.{digit};
 ghost use Rattle.search_rows.specs.Leaf.{AllMatched, Matched};

@@ -1,4 +1,6 @@
 // The words of a leaf, a space of few vectors whose members are gone through 64 at a time: for each of the first rows that some member shows, two words for each column.
+#![tactic(auto)]
+
 ghost use Rattle.std.specs.Prelude.{true, ◌≡◌, ℕ, ◌+◌, ◌*◌, ◌≤◌, ◌<◌, get_or, length, take};
 ghost use Rattle.search_rows.specs.Leaf.{Filled, LeafSized};
 ghost use Rattle.search_filling.specs.Columns.{Reads, RowFilled};
@@ -9,7 +11,7 @@ use search_rows::Pattern;
 pub const LEAF_WORDS: usize = 512;
 
 // The two words of a column. Members are numbered; the lanes of the first word go by the low six digits of the number, those of the second by the others.
-#[derive(Drop)]
+#[derive(Clone, Copy)]
 struct Column {
     low: u64,
     high: u64,

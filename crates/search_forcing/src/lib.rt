@@ -1,4 +1,6 @@
 // What a row of a table forces in a space of states, where no member may show the pattern in the row: an equation, or that no member is left.
+#![tactic(auto)]
+
 ghost use Rattle.std.specs.Prelude.{◌≡◌, ◌++◌, ◌+◌, ◌*◌, ◌≤◌, drop, length, take};
 ghost use Rattle.search_forcing.specs.Forcing.{forced, forced_vectors};
 

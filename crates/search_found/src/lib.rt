@@ -1,10 +1,12 @@
 // What a search has found, and the lower of that and a state.
+#![tactic(auto)]
+
 ghost use Rattle.std.specs.Prelude.{◌≡◌};
 ghost use Rattle.search_found.specs.Lower.{lower, reached as reached_of};
 ghost use Rattle.search_found.specs.declared.Found.TheVariants.{State};
 
 // What a search has found.
-#[derive(Drop)]
+#[derive(Clone, Copy)]
 pub enum Found {
     State(u64),
     Nothing,

@@ -1,4 +1,6 @@
 // Words that hold one bit for each of 64 members of a space.
+#![tactic(auto)]
+
 ghost use Rattle.std.specs.Prelude.{◌≡◌, ℕ, ◌*◌, ◌<◌, take};
 ghost use Rattle.words_gf2.specs.Words.{digit};
 ghost use Rattle.search_lanes.specs.Lanes.{readings};

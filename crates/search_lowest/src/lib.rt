@@ -1,4 +1,6 @@
 // The search for the lowest member of a space that shows a pattern in no row of a table: its members in rising blocks first, then branch and bound over the whole.
+#![tactic(auto)]
+
 ghost use Rattle.std.specs.Prelude.{◌≡◌, ℕ, ◌*◌, ◌≤◌, length, take};
 ghost use Rattle.search_space.specs.Space.{Rising};
 ghost use Rattle.search_found.specs.Search.{lowest_clear};

@@ -1,4 +1,6 @@
 // The members of a space by number.
+#![tactic(auto)]
+
 ghost use Rattle.std.specs.Prelude.{◌≡◌, take};
 ghost use Rattle.search_members.specs.Members.{pick};
 

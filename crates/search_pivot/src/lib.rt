@@ -1,11 +1,13 @@
 // The pivot of a mask: the first vector that is odd under it, taken out of the vectors of a space.
+#![tactic(auto)]
+
 ghost use Rattle.std.specs.Prelude.{◌≡◌, map, ◌++◌, ◌+◌, ◌<◌, ◌≤◌, drop, get_or, length, take, ltb};
 ghost use Rattle.std.proofs.lemmas.List.Edits.{sets};
 ghost use Rattle.search_pivot.specs.Pivot.{added as added_of, pivot, without};
 ghost use Rattle.search_pivot.specs.FirstOdd.{first_odd};
 
 // What taking out the pivot of a mask gives: the pivot, or 0 where no vector is odd, and how many vectors are left.
-#[derive(Drop)]
+#[derive(Clone, Copy)]
 pub struct Taken {
     pub pivot: u64,
     pub left: usize,

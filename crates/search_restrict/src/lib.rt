@@ -1,4 +1,6 @@
 // A space under an equation: the members whose parity under a mask is the wanted one.
+#![tactic(auto)]
+
 ghost use Rattle.std.specs.Prelude.{◌≡◌, ◌++◌, drop, length, take};
 ghost use Rattle.search_pivot.specs.Pivot.{without};
 ghost use Rattle.search_restrict.specs.Restricted.{restricted, shifted as shifted_of};

@@ -1,10 +1,12 @@
 // The rows of a table in which a state shows a pattern.
+#![tactic(auto)]
+
 ghost use Rattle.std.specs.Prelude.{◌≡◌, ◌+◌, ◌*◌, ◌≤◌, length};
 ghost use Rattle.search_rows.specs.Rows.{shown as shown_of};
 ghost use Rattle.search_rows.specs.First.{first_shown};
 
 // The positions of a pattern, which are the columns of its table, and its bits there.
-#[derive(Drop)]
+#[derive(Clone, Copy)]
 pub struct Pattern {
     pub columns: usize,
     pub bits: u64,

@@ -1,4 +1,6 @@
 // How the members of a space show a row of a table: all of them do, or all unless a mask reads a bit, or neither of the two is known.
+#![tactic(auto)]
+
 ghost use Rattle.std.specs.Prelude.{◌≡◌, ◌+◌, ◌*◌, ◌≤◌, ◌<◌, length, take};
 ghost use Rattle.search_rows.specs.Rows.{row as row_of};
 ghost use Rattle.search_showing.specs.Showing.{across as across_of, column as column_of, together as together_of};
@@ -6,7 +8,7 @@ ghost use Rattle.search_showing.specs.Showing.{across as across_of, column as co
 use search_rows::Pattern;
 
 // How the members of a space show a row: all do, or all do unless a mask reads a bit, or neither of the two is known.
-#[derive(Drop)]
+#[derive(Clone, Copy)]
 pub enum Shows {
     Always,
     Unless(u64, u64),

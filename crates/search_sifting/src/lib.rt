@@ -1,4 +1,6 @@
 // The members of a leaf, a space of few vectors, gone through 64 at a time: words sift them, and those that are left are tried on every row.
+#![tactic(auto)]
+
 ghost use Rattle.std.specs.Prelude.{false, ◌≡◌, ℕ, ◌+◌, ◌*◌, ◌≤◌, ◌<◌, length, take};
 ghost use Rattle.words_gf2.specs.Words.{digit};
 ghost use Rattle.search_members.specs.Members.{pick};

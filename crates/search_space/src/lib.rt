@@ -1,9 +1,11 @@
 // Spaces of states: the solutions of linear equations over the cells, as the lowest one and vectors that lead to the others. The vectors stand in a lent buffer beside the space.
+#![tactic(auto)]
+
 ghost use Rattle.std.specs.Prelude.{◌≡◌};
 ghost use Rattle.search_space.specs.Space.{units as units_of};
 
 // A space: its lowest member, how many entries of the buffer are its vectors, and whether it has a member at all.
-#[derive(Drop)]
+#[derive(Clone, Copy)]
 pub struct Space {
     pub lowest: u64,
     pub free: usize,

@@ -1,4 +1,6 @@
 // The tables of a call: the chains' masks pulled back through the steps of the register, and the masks and bits of a slice's specified positions alone.
+#![tactic(auto)]
+
 ghost use Rattle.std.specs.Prelude.{◌≡◌, ◌++◌, ◌*◌, ◌<◌, ◌≤◌, min, drop, length};
 ghost use Rattle.machine_register.specs.Register.{pull as pull_of};
 ghost use Rattle.search_table.specs.Rows.{rows_of};

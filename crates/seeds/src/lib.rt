@@ -1,4 +1,6 @@
 // The library's face for C and Rust: entries without `requires`, each with its whole contract, passed on to the crate of its kind: `face_numbers`, `face_checks`, `face_expand`, `face_window`, `face_encode` or `face_texts`.
+#![tactic(auto)]
+
 ghost use Rattle.std.specs.Prelude.{◌≡◌};
 ghost use Rattle.refusal_order.specs.Order.{judged};
 ghost use Rattle.refusal_checks.specs.Calls.{window_faults, set_faults, cubes_faults, stop_faults, list_faults};

@@ -1,4 +1,6 @@
 // One of the stop slice steps (document 004, III.A, with the ties of document 01): the choice, and the stop slice after it.
+#![tactic(auto)]
+
 ghost use Rattle.std.specs.Prelude.{◌≡◌, ◌≤◌, ◌<◌};
 ghost use Rattle.stop_steps.specs.Lookup.{BitsSpecified};
 ghost use Rattle.stop_choice.specs.Choosing.{track, weighed, chosen, next_of};
@@ -6,7 +8,7 @@ ghost use Rattle.stop_choice.specs.Choosing.{track, weighed, chosen, next_of};
 use machine_slices::TestSlice;
 
 // The best of the choices seen: a choice and its count. A choice is a position and a bit as one number, position * 2 + bit.
-#[derive(Drop)]
+#[derive(Clone, Copy)]
 enum Best {
     Nothing,
     Choice(usize, usize),

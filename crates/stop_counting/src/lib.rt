@@ -1,4 +1,6 @@
 // Which test slices are still in (document 004, III.A). Nothing is kept for each slice: whether one is in is looked up.
+#![tactic(auto)]
+
 ghost use Rattle.std.specs.Prelude.{◌≡◌, ◌<◌};
 ghost use Rattle.stop_steps.specs.Steps.{put as put_of};
 ghost use Rattle.stop_steps.specs.Lookup.{is_in, in_count};

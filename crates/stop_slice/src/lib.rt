@@ -1,4 +1,6 @@
 // The stop slice of a set (document 004, III.A, with the ties of document 01; where the steps end with slices in, document 02, R-1).
+#![tactic(auto)]
+
 ghost use Rattle.std.specs.Prelude.{◌≡◌, ◌^◌, ◌≤◌, length};
 ghost use Rattle.machine_slices.specs.Slices.{paired};
 ghost use Rattle.stop_steps.specs.Steps.{stop_for};
@@ -12,7 +14,7 @@ use refusal_order::Verdict;
 use stop_spare::Pattern;
 
 // The answer of the call for a stop slice.
-#[derive(Drop)]
+#[derive(Clone, Copy)]
 pub enum Formed {
     Stop(TestSlice),
     Refused(Cause),

@@ -1,4 +1,6 @@
 // The spare pattern of a set (document 02, R-1). Nothing is kept for each slice: a pattern is looked up in one pass over the slices.
+#![tactic(auto)]
+
 ghost use Rattle.std.specs.Prelude.{◌≡◌, ◌-◌, ◌^◌, ◌≤◌, ◌<◌, length};
 ghost use Rattle.words_bounded.specs.Bounded.{any};
 ghost use Rattle.machine_slices.specs.Slices.{paired};
@@ -8,7 +10,7 @@ ghost use Rattle.stop_spare.specs.Answer.{pattern_of};
 use machine_slices::TestSlice;
 
 // The smallest pattern that no fully specified test slice equals, or that all are taken.
-#[derive(Drop)]
+#[derive(Clone, Copy)]
 pub enum Pattern {
     Spare(TestSlice),
     AllTaken,

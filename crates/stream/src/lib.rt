@@ -1,5 +1,7 @@
 // Standard input and output in full, over the C library's read and write: a partial or an interrupted call loses nothing.
 // What a call of C moves is open, so the contracts here only limit the answers: they lie within the buffer.
+#![tactic(auto)]
+
 ghost use Rattle.std.specs.Prelude.{◌≤◌, length};
 ghost use Rattle.io.specs.Counts.{IsPrefixLen};
 

@@ -1,1 +1,2 @@
 // How many lines and bytes a text can have, as definitions and laws: no code.
+#![tactic(auto)]

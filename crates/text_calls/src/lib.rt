@@ -1,4 +1,6 @@
 // The text call, by the kind of text (document 01, "Sheet and seed list"): from the bytes of a sheet to those of its seed list, and from the bytes of a seed list to those of its slices.
+#![tactic(auto)]
+
 ghost use Rattle.std.specs.Prelude.{◌≡◌};
 ghost use Rattle.text_entries.specs.Flat.{entries_in};
 ghost use Rattle.text_entries.specs.Said.{Few};

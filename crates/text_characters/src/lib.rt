@@ -1,11 +1,13 @@
 // The slice that the value of a line says (document 01, "Sheet and seed list").
+#![tactic(auto)]
+
 ghost use Rattle.std.specs.Prelude.{◌≡◌, ◌≤◌, length};
 ghost use Rattle.text_characters.specs.Characters.{is_character, specified_at, bit_at, slice_of};
 
 use machine_slices::TestSlice;
 
 // The slice that characters say.
-#[derive(Drop)]
+#[derive(Clone, Copy)]
 pub enum SliceSaid {
     Slice(TestSlice),
     Nothing,

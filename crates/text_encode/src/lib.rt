@@ -1,4 +1,6 @@
 // From the entries of a sheet to the bytes of its seed list (document 01, "Sheet and seed list").
+#![tactic(auto)]
+
 ghost use Rattle.std.specs.Prelude.{◌≡◌, ◌≤◌, length};
 ghost use Rattle.text_entries.specs.Flat.{entries_in};
 ghost use Rattle.text_entries.specs.Said.{Few};

@@ -1,4 +1,6 @@
 // From what a sheet says to the bytes of its seed list (document 01, "Sheet and seed list").
+#![tactic(auto)]
+
 ghost use Rattle.std.specs.Prelude.{◌≡◌, ◌≤◌, length};
 ghost use Rattle.text_encode_said.specs.Encoded.{list_reply, encoded};
 ghost use Rattle.text_replies.specs.Calls.{called};

@@ -1,4 +1,6 @@
 // How the reading of a text ends (document 01, "Sheet and seed list"): at the first refused line, or at the end of the text.
+#![tactic(auto)]
+
 ghost use Rattle.std.specs.Prelude.{◌≡◌};
 ghost use Rattle.text_ending.specs.Ending.{line_number, refused_at, refusal_of_line, end_of};
 
@@ -9,7 +11,7 @@ use text_order::Kind;
 use text_place::Place;
 
 // How a reading ends: all lines are read, or the refusal.
-#[derive(Drop)]
+#[derive(Clone, Copy)]
 pub enum Scanned {
     Whole,
     Refused(Refusal),

@@ -1,4 +1,6 @@
 // What the lines of a text say, kept in one list of numbers (document 01, "Sheet and seed list"): for each line the rank of its key and its two numbers, one line after another. What a text says for a key is picked from it afterwards.
+#![tactic(auto)]
+
 ghost use Rattle.std.specs.Prelude.{◌≡◌, length, get_or, set};
 ghost use Rattle.std.proofs.lemmas.List.Edits.{sets};
 ghost use Rattle.text_entries.specs.Flat.{words, past, offset as offset_of, entries_in};
@@ -12,7 +14,7 @@ use text_lines::Entry;
 const DEFAULT_LIMIT: u64 = machine_settings::DEFAULT_LIMIT as u64;
 
 // Which of the two numbers of a line.
-#[derive(Drop)]
+#[derive(Clone, Copy)]
 pub enum Part {
     First,
     Second,

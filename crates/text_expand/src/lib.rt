@@ -1,4 +1,6 @@
 // From the entries of a seed list to the bytes of its slices (document 01, "Sheet and seed list").
+#![tactic(auto)]
+
 ghost use Rattle.std.specs.Prelude.{◌≡◌};
 ghost use Rattle.text_entries.specs.Flat.{entries_in};
 ghost use Rattle.text_entries.specs.Said.{Few};

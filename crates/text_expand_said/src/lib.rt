@@ -1,4 +1,6 @@
 // From what a seed list says to the bytes of its slices (document 01, "Sheet and seed list").
+#![tactic(auto)]
+
 ghost use Rattle.std.specs.Prelude.{◌≡◌, ◌≤◌, length};
 ghost use Rattle.text_expand_said.specs.Expanded.{slices_reply, expanded};
 ghost use Rattle.text_replies.specs.Calls.{called};

@@ -1,4 +1,6 @@
 // The key with which a line begins (document 01, "Sheet and seed list": "Text lines are key=value").
+#![tactic(auto)]
+
 ghost use Rattle.std.specs.Prelude.{◌≡◌, ◌<◌};
 ghost use Rattle.text_key_of.specs.Begins.{starts as starts_of, key_of};
 ghost use Rattle.text_keys.specs.Keys.{rows, count, row_at};
@@ -6,7 +8,7 @@ ghost use Rattle.text_keys.specs.Keys.{rows, count, row_at};
 use text_keys::Key;
 
 // The key with which a line begins.
-#[derive(Drop)]
+#[derive(Clone, Copy)]
 pub enum Named {
     Known(Key),
     Unknown,

@@ -1,9 +1,11 @@
 // The keys of lines (document 01, "Sheet and seed list": "Text lines are key=value"). A key is a row of one table: how its lines are spelt, and what bounds them.
+#![tactic(auto)]
+
 ghost use Rattle.std.specs.Prelude.{◌≡◌, ◌<◌};
 ghost use Rattle.text_keys.specs.Keys.{count, row_at, row_of, spelling, bounds, rank as rank_of, same as same_of};
 
 // The keys of the lines.
-#[derive(Drop)]
+#[derive(Clone, Copy)]
 pub enum Key {
     Cells,
     Taps,
@@ -19,7 +21,7 @@ pub enum Key {
 }
 
 // How the value of a key is written.
-#[derive(Drop)]
+#[derive(Clone, Copy)]
 pub enum Notation {
     Decimal,
     Hexadecimal,
@@ -27,7 +29,7 @@ pub enum Notation {
 }
 
 // Which numbers a line may have.
-#[derive(Drop)]
+#[derive(Clone, Copy)]
 pub enum Range {
     // From the first to the second.
     Between(usize, usize),
@@ -44,7 +46,7 @@ pub enum Range {
 }
 
 // Why a line is refused: its form or its order, or its own number's range.
-#[derive(Drop)]
+#[derive(Clone, Copy)]
 pub enum LineCause {
     // Cause 13: out of form or out of order.
     Form,
@@ -59,11 +61,11 @@ pub enum LineCause {
 }
 
 // How the lines of a key are spelt: the key, its name with spaces behind it, the bytes of the name, how the value is written, and the most bytes of a line, its line feed included.
-#[derive(Drop)]
+#[derive(Clone, Copy)]
 pub struct Spelling(pub Key, pub [u8; 7], pub usize, pub Notation, pub usize);
 
 // What bounds the lines of a key: how many may stand in a row, which numbers they may have, and the cause of what is beyond.
-#[derive(Drop)]
+#[derive(Clone, Copy)]
 pub struct Bounds(pub usize, pub Range, pub LineCause);
 
 // The greatest limit of a window.

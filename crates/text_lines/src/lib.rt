@@ -1,4 +1,6 @@
 // What one line of a text says by its form (document 01, "Sheet and seed list"): a number or a slice for its key, or a refusal.
+#![tactic(auto)]
+
 ghost use Rattle.std.specs.Prelude.{◌≡◌, drop};
 ghost use Rattle.text_lines.specs.Form.{numbered as numbered_of, sliced as sliced_of, characters as characters_of, valued as valued_of, keyed as keyed_of, formed as formed_of};
 
@@ -8,7 +10,7 @@ use text_keys::{Key, LineCause, Notation, Spelling};
 use text_numbers::Numeral;
 
 // What an accepted line says: its key, and its number and 0 or its slice's two numbers.
-#[derive(Drop)]
+#[derive(Clone, Copy)]
 pub struct Entry {
     pub key: Key,
     pub first: u64,
@@ -16,7 +18,7 @@ pub struct Entry {
 }
 
 // What a line says: its entry, or the cause of its refusal.
-#[derive(Drop)]
+#[derive(Clone, Copy)]
 pub enum Line {
     Said(Entry),
     Refused(LineCause),

@@ -1,1 +1,2 @@
 // What the replies to texts mean, as definitions and laws: no code.
+#![tactic(auto)]

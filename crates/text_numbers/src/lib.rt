@@ -1,9 +1,11 @@
 // The number that the value of a line says (document 01, "Sheet and seed list").
+#![tactic(auto)]
+
 ghost use Rattle.std.specs.Prelude.{◌≡◌, ◌≤◌, ◌^◌, length};
 ghost use Rattle.text_numbers.specs.Numbers.{worth as worth_of, digits as digits_of, number as number_of};
 
 // The number that digits say.
-#[derive(Drop)]
+#[derive(Clone, Copy)]
 pub enum Numeral {
     Value(u64),
     Nothing,

@@ -1,4 +1,6 @@
 // The order of the lines of a text (document 01, "Sheet and seed list"): which keys may stand at a place. A set of keys is a word, with the key of rank r at bit r.
+#![tactic(auto)]
+
 ghost use Rattle.std.specs.Prelude.{◌≡◌, ◌<◌};
 ghost use Rattle.text_keys.specs.Keys.{count, row_at};
 ghost use Rattle.text_order.specs.Order.{after as after_of, missing as missing_of, may_stand, in_order, last_keys, may_end};
@@ -8,7 +10,7 @@ use text_keys::Key;
 use text_place::Place;
 
 // The kinds of text that are read.
-#[derive(Drop)]
+#[derive(Clone, Copy)]
 pub enum Kind {
     Sheet,
     SeedList,
@@ -37,7 +39,7 @@ const SLICES: u64 = 1 << 9;
 const SEED: u64 = 1 << 10;
 
 // The keys that may stand after the lines of a key, in a sheet and in a seed list; a row a key, as in the table of keys.
-#[derive(Drop)]
+#[derive(Clone, Copy)]
 pub struct Followers(pub u64, pub u64);
 
 const AFTER: [Followers; text_keys::COUNT] = [

@@ -1,11 +1,13 @@
 // How far a text is read (document 01, "Sheet and seed list"): the place after a line.
+#![tactic(auto)]
+
 ghost use Rattle.std.specs.Prelude.{◌≡◌, ◌+◌, ◌<◌, ◌^◌};
 ghost use Rattle.text_place.specs.Places.{run_of, number_if, moved as moved_of};
 
 use text_keys::Key;
 
 // How far a text is read: the key of the last line, how many lines with it stand in a row, and the cells and chains that were read. Before the first line the key is that of the first line, with a run of 0.
-#[derive(Drop)]
+#[derive(Clone, Copy)]
 pub struct Place {
     pub last: Key,
     pub run: usize,

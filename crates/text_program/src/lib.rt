@@ -1,4 +1,6 @@
 // What the programs on texts have in common: what is printed for a text, by its kind, and the reading of standard input (document 01, "Sheet and seed list").
+#![tactic(auto)]
+
 ghost use Rattle.std.specs.Prelude.{◌≡◌, ◌++◌, ◌≤◌, length, drop};
 ghost use Rattle.io.specs.Counts.{IsPrefixLen};
 ghost use Rattle.text_bounds.specs.Bounds.{enough, most_text};

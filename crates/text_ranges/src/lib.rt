@@ -1,4 +1,6 @@
 // What a line says at a place (document 01, "Sheet and seed list"): its key must be one that may stand there, and its own number in range.
+#![tactic(auto)]
+
 ghost use Rattle.std.specs.Prelude.{◌≡◌};
 ghost use Rattle.text_ranges.specs.Ranges.{outside as outside_of, out_of_range, tested as tested_of, saying as saying_of};
 

@@ -1,4 +1,6 @@
 // The reading of a text, line by line (document 01, "Sheet and seed list"): it stops at the first refused line.
+#![tactic(auto)]
+
 ghost use Rattle.std.specs.Prelude.{◌≡◌};
 ghost use Rattle.std.proofs.lemmas.List.Edits.{sets};
 ghost use Rattle.text_entries.specs.Flat.{flat};

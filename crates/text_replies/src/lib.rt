@@ -1,11 +1,13 @@
 // The answers of the text calls, and how they are printed (document 01, "Sheet and seed list").
+#![tactic(auto)]
+
 ghost use Rattle.std.specs.Prelude.{◌≡◌};
 ghost use Rattle.text_replies.specs.Calls.{answered as answered_of, bytes_of, shown};
 
 use refusal_causes::{Refusal, Written};
 
 // The answer of a text call: how many bytes it wrote and how many seeds or slices they say; or the refusal, and for cause 9 how many seeds or slices enough space would have given, else 0.
-#[derive(Drop)]
+#[derive(Clone, Copy)]
 pub enum Answer {
     Text(usize, usize),
     Refused(Refusal, usize),

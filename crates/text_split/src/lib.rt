@@ -1,4 +1,6 @@
 // The lines of a text by their line feeds (document 01, "Sheet and seed list").
+#![tactic(auto)]
+
 ghost use Rattle.std.specs.Prelude.{◌≡◌, ◌+◌, ◌≤◌, length, drop};
 ghost use Rattle.text_split.specs.Text.{span};
 

@@ -1,5 +1,7 @@
 // Bytes that are written into a lent buffer (document 01, "Sheet and seed list").
 // A function writes from a place on, as far as the buffer goes, and answers the place after its text; so the same function first counts the bytes of a text and then writes it.
+#![tactic(auto)]
+
 ghost use Rattle.std.specs.Prelude.{◌≡◌, [], ◌∷◌, ◌+◌, ◌<◌, ◌^◌, length};
 ghost use Rattle.std.proofs.lemmas.List.Edits.{sets};
 ghost use Rattle.text_write_bytes.specs.Stored.{Stored};

@@ -1,5 +1,7 @@
 // Slices, and lines with a slice, that are written into a lent buffer (document 01, "Sheet and seed list").
 // A function writes from a place on, as far as the buffer goes, and answers the place after its text (`text_write_bytes`).
+#![tactic(auto)]
+
 ghost use Rattle.std.specs.Prelude.{◌≡◌, ◌+◌, ◌≤◌, ◌<◌, ◌^◌, length};
 ghost use Rattle.text_write_characters.specs.Characters.{character as character_of, characters as characters_of, slice_line};
 ghost use Rattle.text_write_bytes.specs.Stored.{Stored};

@@ -1,5 +1,7 @@
 // The lines that a seed list repeats from its sheet, written into a lent buffer (document 01, "Sheet and seed list"; document 02, R-3 and R-4).
 // It writes from a place on, as far as the buffer goes, and answers the place after its text (`text_write_bytes`).
+#![tactic(auto)]
+
 ghost use Rattle.std.specs.Prelude.{◌+◌, ◌<◌, ◌^◌, length};
 ghost use Rattle.text_write_bytes.specs.Stored.{Stored};
 ghost use Rattle.text_write_head.specs.Head.{chains_text, head_text};

@@ -1,5 +1,7 @@
 // Numbers, and lines with a number, that are written into a lent buffer (document 01, "Sheet and seed list").
 // A function writes from a place on, as far as the buffer goes, and answers the place after its text (`text_write_bytes`).
+#![tactic(auto)]
+
 ghost use Rattle.std.specs.Prelude.{◌≡◌, ◌+◌, ◌≤◌, ◌<◌, ◌^◌, length, drop};
 ghost use Rattle.text_write_numbers.specs.Numerals.{glyph as glyph_of, numeral as numeral_of};
 ghost use Rattle.text_write_bytes.specs.Stored.{Stored};

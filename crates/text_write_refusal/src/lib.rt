@@ -1,5 +1,7 @@
 // Refusals that are written into a lent buffer (document 01, "Sheet and seed list").
 // An inner function writes from a place on, as far as the buffer goes, and answers the place after its text (`text_write_bytes`).
+#![tactic(auto)]
+
 ghost use Rattle.std.specs.Prelude.{◌≡◌, ◌+◌, ◌<◌, ◌^◌, length};
 ghost use Rattle.refusal_causes.specs.Outcome.{fill};
 ghost use Rattle.text_write_bytes.specs.Stored.{Stored};

@@ -1,4 +1,6 @@
 // The members of a space whose slices agree with those of a window, and with the stop after it (document 01, "Covering and cutting").
+#![tactic(auto)]
+
 ghost use Rattle.std.specs.Prelude.{false, ◌≡◌, ◌+◌, ◌*◌, ◌^◌, ◌<◌, ◌≤◌, length, take};
 ghost use Rattle.machine_slices.specs.Slices.{bad_slices, paired};
 ghost use Rattle.window_rows.specs.Meeting.{all_meet};

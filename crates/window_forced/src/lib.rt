@@ -1,4 +1,6 @@
 // Forced positions: the members of a space that may be clear in the stop's rows.
+#![tactic(auto)]
+
 ghost use Rattle.std.specs.Prelude.{◌*◌, ◌≤◌, length, take};
 ghost use Rattle.search_rows.specs.Rows.{clear};
 ghost use Rattle.window_forced.specs.Keeping.{Keeps};

@@ -1,4 +1,6 @@
 // The spaces of the states that meet the first slices of a part: each is entered once and written at its place.
+#![tactic(auto)]
+
 ghost use Rattle.std.specs.Prelude.{false, ◌≡◌, ◌*◌, ◌≤◌, length};
 ghost use Rattle.machine_slices.specs.Slices.{bad_slices, paired};
 ghost use Rattle.window_rows.specs.Meeting.{all_meet};

@@ -1,4 +1,6 @@
 // The lengths of a window, tried from a longest one down; each takes up the space that its slices left.
+#![tactic(auto)]
+
 ghost use Rattle.std.specs.Prelude.{false, ◌≡◌, suc, ◌/◌, ◌<◌, ◌≤◌, length};
 ghost use Rattle.machine_settings.specs.Machine.{machine};
 ghost use Rattle.machine_slices.specs.Slices.{bad_slices, paired};
@@ -15,7 +17,7 @@ use window_spaces::SPACE_ENTRIES;
 use window_tables::Sought;
 
 // The longest window from a start: how many slices it takes, and its seed; 0 and 0 where there is none.
-#[derive(Drop)]
+#[derive(Clone, Copy)]
 pub struct Window {
     pub slices: usize,
     pub seed: u64,

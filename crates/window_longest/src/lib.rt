@@ -1,4 +1,6 @@
 // The longest window from a start: the spaces of its first slices are kept, and lengths are tried from the longest that the equations allow down.
+#![tactic(auto)]
+
 ghost use Rattle.std.specs.Prelude.{false, ◌≡◌, suc, length};
 ghost use Rattle.machine_settings.specs.Machine.{machine};
 ghost use Rattle.machine_slices.specs.Slices.{bad_slices, paired};

@@ -1,4 +1,6 @@
 // The lowest state that covers a window, from the space of the states that its bits allow (document 01, "Covering and cutting").
+#![tactic(auto)]
+
 ghost use Rattle.std.specs.Prelude.{false, ◌≡◌, suc, length, take};
 ghost use Rattle.machine_settings.specs.Machine.{machine};
 ghost use Rattle.machine_slices.specs.Slices.{bad_slices, paired};

@@ -1,4 +1,6 @@
 // How far a window may go by what its rows force.
+#![tactic(auto)]
+
 ghost use Rattle.std.specs.Prelude.{false, ◌≡◌, ◌*◌, ◌≤◌, length};
 ghost use Rattle.machine_slices.specs.Slices.{bad_slices, paired};
 ghost use Rattle.window_rows.specs.Most.{Most};

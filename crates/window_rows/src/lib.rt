@@ -1,4 +1,6 @@
 // The members of a space whose slice agrees with a test slice, read by a row of a table (document 01, "Covering and cutting").
+#![tactic(auto)]
+
 ghost use Rattle.std.specs.Prelude.{◌+◌, ◌*◌, ◌^◌, ◌<◌, ◌≤◌, length, take};
 ghost use Rattle.search_rows.specs.Rows.{row as row_of};
 ghost use Rattle.window_rows.specs.Meeting.{meets};

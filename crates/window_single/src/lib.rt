@@ -1,4 +1,6 @@
 // The seed of a single window: the lowest state that covers it, or a refusal.
+#![tactic(auto)]
+
 ghost use Rattle.std.specs.Prelude.{true, ◌≡◌, ℕ};
 ghost use Rattle.std.proofs.Math.Option.{Option};
 ghost use Rattle.machine_settings.specs.Machine.{none_inverted, machine};

@@ -1,4 +1,6 @@
 // A space that is kept: written at its place and read from there.
+#![tactic(auto)]
+
 ghost use Rattle.std.specs.Prelude.{◌≡◌, ℕ, ◌+◌, ◌<◌, ◌≤◌, get_or, length, take};
 ghost use Rattle.window_spaces.specs.Holding.{held_vectors, Holds};
 

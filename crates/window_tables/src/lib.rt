@@ -1,4 +1,6 @@
 // What a search is told besides the slices: what is asked of the seed, and the tables of a call: the masks of all chains and of the stop's chains pulled back, row by row, and the stop slice without its unspecified positions.
+#![tactic(auto)]
+
 ghost use Rattle.std.specs.Prelude.{◌++◌, ◌≡◌, ◌*◌, ◌≤◌, drop, length};
 ghost use Rattle.search_table.specs.Rows.{rows_of};
 ghost use Rattle.search_table.specs.Chosen.{chosen as chosen_of};
@@ -12,7 +14,7 @@ use search_rows::Pattern;
 pub const MOST_ENTRIES: usize = 16448;
 
 // What is asked of the seed of a window: under which settings and stop slice it covers it, the stop slice without its unspecified positions, and whether the slice after the window must show the stop.
-#[derive(Drop)]
+#[derive(Clone, Copy)]
 pub struct Sought {
     pub settings: Settings,
     pub stop: TestSlice,

@@ -1,4 +1,6 @@
 // Bounded search over a test on numbers, as definitions and laws; the code is the test of a range and the lesser of two numbers.
+#![tactic(auto)]
+
 ghost use Rattle.std.specs.Prelude.{◌≡◌, min};
 ghost use Rattle.words_bounded.specs.Bounded.{within as within_of};
 

@@ -1,4 +1,6 @@
 // Words as vectors of bits (document 01, "Register and chains"): the digits of a word, its parity under a mask, and bits beyond a width.
+#![tactic(auto)]
+
 ghost use Rattle.std.specs.Prelude.{◌≡◌};
 ghost use Rattle.words_gf2.specs.Words.{digit as digit_of, odd as odd_of, beyond as beyond_of};
 
