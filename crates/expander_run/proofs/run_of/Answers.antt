@@ -1,0 +1,54 @@
+-- `expander_run::run_of` meets its contract. Assumes nothing.
+use mathlib.Core.Path.{◌≡◌, sym, ap, ◌∙◌}
+use mathlib.Core.Logic.{⊎_elim}
+use mathlib.Core.Bool.{◌&&◌}
+use native.Mathlib.Omega.{arith}
+use lib.Dec.{leb}
+use Rattle.refusal_causes.specs.declared.Written.TheVariants.{Count}
+use Rattle.expander_run.proofs.Looking.{counted_by, told-beyond, told_at_stop, told_open, told-closed, told_endless}
+use Rattle.expander_run.proofs.run_of.Goals as goal
+
+pub returns-then-beyond : goal.returns-then-beyond
+returns-then-beyond c =
+    let a = c.args in
+    sym (told-beyond a.settings a.masks.now a.stop a.place a.last a.left a.seed (sym c.beyond.ensures ∙ c.if-beyond.true))
+
+pub returns-then-length-eq0 : goal.returns-then-length-eq0
+returns-then-length-eq0 c =
+    let a = c.args in
+    let j = c.if-last in
+    let e : j.unclosed ≡ (a.last && leb a.left a.settings.limit) = ⊎_elim (λ v. rw (v.2, v.0.taken)) (λ v. rw (v.1, v.0.left)) j.branch in
+    let state = sym c.beyond.ensures ∙ c.if-beyond.false in
+    let t = c.before_stop-length in
+    let n = counted_by a.settings a.masks.now a.stop a.place a.last a.left a.seed t.result _ j.unclosed t.ensures c.looked_at-looked.ensures e in
+    sym (told_at_stop a.settings a.masks.now a.stop a.place a.last a.left a.seed state t.result n c.if-length-eq0.true)
+
+pub returns-then-unclosed : goal.returns-then-unclosed
+returns-then-unclosed c =
+    let a = c.args in
+    let j = c.if-last in
+    let e : j.unclosed ≡ (a.last && leb a.left a.settings.limit) = ⊎_elim (λ v. rw (v.2, v.0.taken)) (λ v. rw (v.1, v.0.left)) j.branch in
+    let state = sym c.beyond.ensures ∙ c.if-beyond.false in
+    let t = c.before_stop-length in
+    let n = counted_by a.settings a.masks.now a.stop a.place a.last a.left a.seed t.result _ j.unclosed t.ensures c.looked_at-looked.ensures e in
+    ap Count c.lesser.ensures ∙ sym (told_open a.settings a.masks.now a.stop a.place a.last a.left a.seed state t.result n (sym e ∙ c.if-unclosed.true) (omega (arith, c.if-length-eq0.false)))
+
+pub returns-then-settings-length : goal.returns-then-settings-length
+returns-then-settings-length c =
+    let a = c.args in
+    let j = c.if-last in
+    let e : j.unclosed ≡ (a.last && leb a.left a.settings.limit) = ⊎_elim (λ v. rw (v.2, v.0.taken)) (λ v. rw (v.1, v.0.left)) j.branch in
+    let state = sym c.beyond.ensures ∙ c.if-beyond.false in
+    let t = c.before_stop-length in
+    let n = counted_by a.settings a.masks.now a.stop a.place a.last a.left a.seed t.result _ j.unclosed t.ensures c.looked_at-looked.ensures e in
+    sym (told_endless a.settings a.masks.now a.stop a.place a.last a.left a.seed state t.result n (sym e ∙ c.if-unclosed.false) c.if-settings-length.true)
+
+pub returns : goal.returns
+returns c =
+    let a = c.args in
+    let j = c.if-last in
+    let e : j.unclosed ≡ (a.last && leb a.left a.settings.limit) = ⊎_elim (λ v. rw (v.2, v.0.taken)) (λ v. rw (v.1, v.0.left)) j.branch in
+    let state = sym c.beyond.ensures ∙ c.if-beyond.false in
+    let t = c.before_stop-length in
+    let n = counted_by a.settings a.masks.now a.stop a.place a.last a.left a.seed t.result _ j.unclosed t.ensures c.looked_at-looked.ensures e in
+    sym (told-closed a.settings a.masks.now a.stop a.place a.last a.left a.seed state t.result n (sym e ∙ c.if-unclosed.false) (omega (arith, c.if-length-eq0.false)) c.if-settings-length.false)

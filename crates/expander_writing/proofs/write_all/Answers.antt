@@ -1,0 +1,38 @@
+-- `expander_writing::write_all` meets its contract: the slices of the seeds passed are written, and those of the rest complete them. Assumes nothing.
+use mathlib.Core.Path.{refl}
+use Prim.Native.Nat.{◌-◌}
+use native.Mathlib.Omega.{arith}
+use lib.ListN.{get_or}
+use Rattle.machine_settings.specs.Machine.{machine}
+use Rattle.expander_meaning.specs.Until.{until_stop}
+use Rattle.expander_meaning.proofs.Until.{until_length}
+use Rattle.expander_writing.proofs.Filling.{size_kept, filled_start, filled_next, filled_end}
+use Rattle.expander_writing.proofs.write_all.Goals as goal
+
+pub loop-place-init : goal.loop-place-init
+loop-place-init c = ((λ vs w h. filled_start _ _ _ _ _ vs _ w h), omega arith, omega arith, refl)
+
+pub write_run-at-requires : goal.write_run-at-requires
+write_run-at-requires c =
+    let p = c.requires in
+    let l = c.loop-place in record { ready = p.0; place = (l.invariant.2, omega (arith, l.invariant.3, p.1.0)); made = p.1.1 }
+
+pub loop-place-preserved : goal.loop-place-preserved
+loop-place-preserved c =
+    let w = c.write_run-at in
+    let l = c.loop-place in
+    let a = c.args in
+    let there = c.loop-place-test.true in (
+      (λ vs wk h. rw (w.ensures.0, w.ensures.1) (filled_next _ _ _ _ _ vs _ l.place l.at l.out (l.invariant.0 vs wk h) there)),
+      omega arith,
+      omega (arith, w.ensures.0, l.invariant.2, until_length (machine a.settings a.masks.now) a.stop (a.slices - l.at) (get_or a.seeds.now l.place 0)),
+      size_kept l.out (until_stop (machine a.settings a.masks.now) a.stop (a.slices - l.at) (get_or a.seeds.now l.place 0)) _ l.at _ w.ensures.1 l.invariant.3,
+    )
+
+pub shape_of-out : goal.shape_of-out
+shape_of-out c = c.loop-place.invariant.3
+
+pub returns : goal.returns
+returns c =
+    let l = c.loop-place in
+    λ vs wk h. filled_end _ _ _ _ _ vs _ l.place l.at l.out (l.invariant.0 vs wk h) c.loop-place-test.false

@@ -1,0 +1,7 @@
+-- `face_checks::check_list` meets its contract. Assumes nothing.
+use mathlib.Core.Path.{ap, ◌∙◌}
+use Rattle.face_checks.specs.Verdicts.{number_of}
+use Rattle.face_checks.proofs.check_list.Goals as goal
+
+pub returns : goal.returns
+returns c = c.number.ensures ∙ ap number_of (rw c.settings_of-given.ensures at c.check_list.ensures)

@@ -1,0 +1,12 @@
+-- `face_encode::encode_set` meets its contract. Assumes nothing.
+use mathlib.Core.Path.{ap, ◌∙◌}
+use Rattle.encoder_meaning.proofs.Calls.{set_means}
+use Rattle.face_answers.specs.Answers.{answer_of}
+use Rattle.face_values.specs.Values.{settings_of, test_slice_of}
+use Rattle.face_encode.proofs.encode_set.Goals as goal
+
+pub returns : goal.returns
+returns c =
+    let a = c.args in
+    let g = c.settings_of-given in
+    let e = c.encode_set-written in record { answer = c.answer_of.ensures ∙ ap answer_of (rw g.ensures at e.ensures.0); buffer = rw g.ensures at e.ensures.1.0; meaning = set_means (settings_of a.settings) a.masks.now (test_slice_of a.stop-specified a.stop-bits) a.specified.now a.bits.now a.out.now }

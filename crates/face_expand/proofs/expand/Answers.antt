@@ -1,0 +1,9 @@
+-- `face_expand::expand` meets its contract. Assumes nothing.
+use mathlib.Core.Path.{ap, ◌∙◌}
+use Rattle.face_answers.specs.Answers.{answer_of}
+use Rattle.face_expand.proofs.expand.Goals as goal
+
+pub returns : goal.returns
+returns c =
+    let e = c.expand_list-written in
+    let g = c.settings_of-given in record { answer = c.answer_of.ensures ∙ ap answer_of (rw g.ensures at e.ensures.0); buffer = rw g.ensures at e.ensures.1 }

@@ -1,0 +1,15 @@
+-- `face_numbers::stop_answer_of` meets its contract. Assumes nothing.
+use mathlib.Core.Path.{sym, ap, ◌∙◌}
+use Rattle.refusal_causes.specs.declared.Refusal.{Refusal}
+use Rattle.face_numbers.specs.Stop.{stop_answer_of}
+use Rattle.face_numbers.specs.declared.StopAnswer.{StopAnswer}
+use Rattle.face_numbers.proofs.stop_answer_of.Goals as goal
+
+abbrev refusedStop : Refusal → StopAnswer
+refusedStop r = record { number = r.number; value = r.value; specified = 0; bits = 0 }
+
+pub returns-in-Stop : goal.returns-in-Stop
+returns-in-Stop c = sym (ap stop_answer_of c.formed-1.given.1)
+
+pub returns-in-Refused : goal.returns-in-Refused
+returns-in-Refused c = ap refusedStop c.refusal_of-refusal.ensures ∙ sym (ap stop_answer_of c.formed-in-Refused-1.given.1)

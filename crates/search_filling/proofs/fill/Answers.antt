@@ -1,0 +1,58 @@
+-- `search_filling::fill` meets its contract. Assumes nothing.
+use mathlib.Core.Logic.{⊎_elim}
+use borrow.Author.Rules.{rules}
+use native.Mathlib.Omega.{arith}
+use mathlib.Core.Path.{◌≡◌, refl, sym, ◌∙◌}
+use Prim.Native.Nat.{◌-◌, ◌+◌, ◌*◌, ◌≤◌}
+use lib.ListN.{length, take}
+use Rattle.search_rows.proofs.Reading.{row_fits}
+use Rattle.search_filling.proofs.Words.{filled_none, filled_row, filled_same}
+use Rattle.search_filling.proofs.fill.Goals as goal
+
+pub loop-row-init : goal.loop-row-init
+loop-row-init c =
+    let a = c.args in
+    (omega arith, omega arith, c.requires.space, filled_none a.pattern a.table.now a.rows a.lowest (take a.free a.vectors.now) a.words.now)
+
+pub overflow_mul-first : goal.overflow_mul-first
+overflow_mul-first c = let i = c.loop-row.invariant in let w = i.3.within in let n = i.2 in search rules
+
+pub overflow_add-first : goal.overflow_add-first
+overflow_add-first c =
+    let i = c.loop-row.invariant in
+    let w = i.3.within in
+    let n = i.2 in
+    let k = c.requires.leaf.0.word in
+    search rules
+
+pub shape_of-words-then-most-first : goal.shape_of-words-then-most-first
+shape_of-words-then-most-first c = c.loop-row.invariant.2 ∙ sym c.requires.space
+
+pub returns-then-most-first : goal.returns-then-most-first
+returns-then-most-first c = c.loop-row.invariant.3
+
+pub fill_row-requires : goal.fill_row-requires
+fill_row-requires c =
+    let l = c.loop-row in record { leaf = c.requires.leaf; table = row_fits l.row c.args.rows c.args.pattern.columns (length c.args.table.now) (omega arith) c.requires.table; space = omega (arith, l.invariant.2) }
+
+pub loop-row-preserved : goal.loop-row-preserved
+loop-row-preserved c =
+    let a = c.args in
+    let l = c.loop-row in
+    let o = c.fill_row in
+    let k : length o.new.1.1.1.1.1.1.0 ≡ length l.words = o.auto.1.1.1.1.1.1.0 in
+    let room : l.count * (a.pattern.columns * 2) + a.pattern.columns * 2 ≤ length l.words = omega (arith, l.invariant.2) in (
+      omega arith,
+      ⊎_elim (λ v. omega (arith, v.1)) (λ v. omega (arith, v.1)) c.if-fill_row.branch,
+      k ∙ l.invariant.2,
+      ⊎_elim
+          (λ v. rw v.1 (filled_row a.pattern a.table.now a.rows a.lowest (take a.free a.vectors.now) l.words o.new.1.1.1.1.1.1.0 l.count _ refl k o.ensures.0 l.invariant.3 l.row (omega arith) room (o.ensures.1 v.0.taken)))
+          (λ v. rw v.1 (filled_same a.pattern a.table.now a.rows a.lowest (take a.free a.vectors.now) l.words o.new.1.1.1.1.1.1.0 l.count _ refl k o.ensures.0 l.invariant.3))
+          c.if-fill_row.branch,
+    )
+
+pub shape_of-words : goal.shape_of-words
+shape_of-words c = c.loop-row.invariant.2 ∙ sym c.requires.space
+
+pub returns : goal.returns
+returns c = c.loop-row.invariant.3

@@ -1,0 +1,21 @@
+-- `stop_choice::better` meets its contract. Assumes nothing.
+use mathlib.Core.Path.{sym, ap, ◌∙◌}
+use Rattle.stop_choice.specs.Choosing.{track}
+use Rattle.stop_choice.proofs.Tracking.{track_more, track_less}
+use Rattle.stop_choice.proofs.better.Goals as goal
+
+pub returns-in-Nothing : goal.returns-in-Nothing
+unfolding track
+returns-in-Nothing c = let a = c.args in sym (ap (track a.choice a.count) c.enum_told-1.given.1)
+
+pub returns-then-most-count : goal.returns-then-most-count
+returns-then-most-count c =
+    let a = c.args in
+    let b = c.best-1.given in
+    sym (ap (track a.choice a.count) b.1 ∙ track_more a.choice a.count b.0.0 b.0.1.0 c.if-most-count.true)
+
+pub returns-else-most-count : goal.returns-else-most-count
+returns-else-most-count c =
+    let a = c.args in
+    let b = c.best-1.given in
+    sym (ap (track a.choice a.count) b.1 ∙ track_less a.choice a.count b.0.0 b.0.1.0 c.if-most-count.false)

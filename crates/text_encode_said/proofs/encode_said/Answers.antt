@@ -1,0 +1,7 @@
+-- `text_encode_said::encode_said` meets its contract. Assumes nothing.
+use Rattle.text_encode_said.specs.Encoded.{encoded}
+use Rattle.text_encode_said.proofs.encode_said.Goals as goal
+
+pub returns : goal.returns
+unfolding encoded
+returns c = let w = rw (← c.encode_cubes-encoded.ensures.answer, ← c.encode_cubes-encoded.ensures.buffer) c.reply_list.ensures in record { answer = w.0; buffer = w.1 }

@@ -1,0 +1,28 @@
+-- `text_encode_said::reply_list` meets its contract. Assumes nothing.
+use mathlib.Core.Path.{refl, sym}
+use native.Mathlib.Nat.{min-le_right}
+use native.Mathlib.Omega.{arith}
+use lib.ListN.{length, length-take}
+use lib.Seq.{length-take-le}
+use Rattle.text_encode_said.specs.Encoded.{list_reply}
+use Rattle.text_replies.specs.Calls.{called}
+use Rattle.text_encode_said.proofs.Answering.{list_leaves}
+use Rattle.text_encode_said.proofs.reply_list.Goals as goal
+
+pub slice_bounds-write_list-end : goal.slice_bounds-write_list-end
+slice_bounds-write_list-end c =
+    let h = c.lesser-count.ensures in
+    let xs = c.args.seeds.now in
+    sym (length-take-le _ xs (rw h (min-le_right _ (length xs))))
+
+pub write_list-written-requires : goal.write_list-written-requires
+write_list-written-requires c =
+    let h = c.requires in
+    (omega (arith, h.0), omega (arith, h.1), omega (arith, h.2, length-take c.lesser-count.result c.args.seeds.now))
+
+pub returns-in-Seeds : goal.returns-in-Seeds
+returns-in-Seeds c = let w = rw c.encoded-1.given.1 (list_leaves _ _ _ _ _ _ _ _ c.lesser-count.ensures _ _ _ c.answered.ensures c.write_list-written.ensures.answer c.write_list-written.ensures.buffer) in record { answer = w.0; buffer = w.1 }
+
+pub returns-in-Refused : goal.returns-in-Refused
+unfolding list_reply called
+returns-in-Refused c = let w = rw (c.encoded-in-Refused-1.given.1, c.refusal_of.ensures) (refl, refl) in record { answer = w.0; buffer = w.1 }

@@ -1,0 +1,11 @@
+-- `text_ending::refusal_of_line` meets its contract. Assumes nothing.
+use Rattle.text_ending.specs.Ending.{refusal_of_line}
+use Rattle.text_ending.proofs.refusal_of_line.Goals as goal
+
+pub returns-in-Said : goal.returns-in-Said
+unfolding refusal_of_line
+returns-in-Said c = rw c.enum_told-1.given.1 c.refused_at.ensures
+
+pub returns-in-Refused : goal.returns-in-Refused
+unfolding refusal_of_line
+returns-in-Refused c = rw c.line-1.given.1 c.refused_at-in-Refused.ensures

@@ -1,0 +1,7 @@
+-- `text_expand_said::expand_said` meets its contract. Assumes nothing.
+use Rattle.text_expand_said.specs.Expanded.{expanded}
+use Rattle.text_expand_said.proofs.expand_said.Goals as goal
+
+pub returns : goal.returns
+unfolding expanded
+returns c = let w = rw (← c.expand_list-written.ensures.answer, ← c.expand_list-written.ensures.buffer) c.reply_slices.ensures in record { answer = w.0; buffer = w.1 }

@@ -1,0 +1,32 @@
+-- `window_single::seed_upright` meets its contract. Assumes nothing.
+use mathlib.Core.Path.{sym}
+use Prim.Native.Nat.{◌+◌}
+use native.Mathlib.Omega.{arith}
+use native.Mathlib.Numerals.{add-one}
+use lib.ListN.{length}
+use Rattle.refusal_lengths.proofs.Lengths.{window_within}
+use Rattle.refusal_checks.proofs.Formed.{window_formed}
+use Rattle.window_tables.proofs.Tables.{table-room, tables_filled}
+use Rattle.window_single.proofs.seed_upright.Goals as goal
+
+pub fill-requires : goal.fill-requires
+fill-requires c =
+    let a = c.args in
+    let w = window_formed a.settings a.masks.now a.stop a.specified.now a.bits.now c.requires.0 in
+    table-room (length a.specified.now + 1) (length a.masks.now) (omega (arith, (window_within a.settings.limit (length a.specified.now) w.lengths).1, w.most)) w.few
+
+pub fill_stops-pattern-requires : goal.fill_stops-pattern-requires
+fill_stops-pattern-requires c =
+    let a = c.args in
+    let w = window_formed a.settings a.masks.now a.stop a.specified.now a.bits.now c.requires.0 in
+    (w.few, table-room (length a.specified.now + 1) (length a.masks.now) (omega (arith, (window_within a.settings.limit (length a.specified.now) w.lengths).1, w.most)) w.few)
+
+pub found_anew-found-requires : goal.found_anew-found-requires
+found_anew-found-requires c =
+    let a = c.args in
+    let w = window_formed a.settings a.masks.now a.stop a.specified.now a.bits.now c.requires.0 in
+    let k = c.fill_stops-pattern in
+    let f = c.fill in record { tables_for = rw (sym (add-one (length a.specified.now))) (tables_filled a.settings a.masks.now a.stop k.result f.new.1.1.1.0 k.new.1.1.1.1.0 _ _ (length a.specified.now + 1) w.register w.chains c.requires.1 w.stop k.ensures.0 f.ensures k.ensures.1); bits_value = w.slices }
+
+pub returns : goal.returns
+returns c = c.answer.ensures _ c.found_anew-found.ensures
