@@ -12,18 +12,18 @@ pub encode_formed-requires : goal.encode_formed-requires
 encode_formed-requires c =
     let a = c.args in
     let k = c.check_cubes-verdict in
-    cubes_formed a.settings a.masks.now a.specified.now a.bits.now _ (sym k.ensures ∙ c.enum_told-1.given.1)
+    cubes_formed a.settings a.masks.now a.specified.now a.bits.now _ (sym k.ensures ∙ c.in-WellFormed.is)
 
 pub returns-in-Refused : goal.returns-in-Refused
 returns-in-Refused c =
     let a = c.args in
     let k = c.check_cubes-verdict in
-    let e = cubes_refused a.settings a.masks.now a.specified.now a.bits.now a.out.now a.depth _ (sym k.ensures ∙ c.verdict-1.given.1) in let w = cubes_outcome a.settings a.masks.now a.specified.now a.bits.now a.out.now a.depth _ a.out.now (sym (ap (λ (o : CubesOutcome). o.answer) e)) (sym (ap (λ (o : CubesOutcome). o.buffer) e)) in record { answer = w.0; buffer = w.1.0; meaning = w.1.1 }
+    let e = cubes_refused a.settings a.masks.now a.specified.now a.bits.now a.out.now a.depth _ (sym k.ensures ∙ c.in-Refused.is) in let w = cubes_outcome a.settings a.masks.now a.specified.now a.bits.now a.out.now a.depth _ a.out.now (sym (ap (λ (o : CubesOutcome). o.answer) e)) (sym (ap (λ (o : CubesOutcome). o.buffer) e)) in record { answer = w.0; buffer = w.1.0; meaning = w.1.1 }
 
 pub returns-in-WellFormed : goal.returns-in-WellFormed
 returns-in-WellFormed c =
     let a = c.args in
     let k = c.check_cubes-verdict in
-    let q : judged (cubes_faults a.settings a.masks.now a.depth a.specified.now a.bits.now) ≡ verdict.WellFormed = sym k.ensures ∙ c.enum_told-1.given.1 in
+    let q : judged (cubes_faults a.settings a.masks.now a.depth a.specified.now a.bits.now) ≡ verdict.WellFormed = sym k.ensures ∙ c.in-WellFormed.is in
     let e = cubes_well a.settings a.masks.now a.specified.now a.bits.now a.out.now a.depth q in
-    let t = c.encode_formed in let w = cubes_outcome a.settings a.masks.now a.specified.now a.bits.now a.out.now a.depth t.result _ (t.ensures.0 ∙ ap (λ (o : CubesOutcome). o.answer) (sym e)) (t.ensures.1 ∙ ap (λ (o : CubesOutcome). o.buffer) (sym e)) in record { answer = w.0; buffer = w.1.0; meaning = w.1.1 }
+    let t = c.encode_formed in let w = cubes_outcome a.settings a.masks.now a.specified.now a.bits.now a.out.now a.depth t.result _ (t.ensures.answer ∙ ap (λ (o : CubesOutcome). o.answer) (sym e)) (t.ensures.buffer ∙ ap (λ (o : CubesOutcome). o.buffer) (sym e)) in record { answer = w.0; buffer = w.1.0; meaning = w.1.1 }

@@ -4,8 +4,8 @@ use Rattle.encoder_cubes.proofs.with_stop.Goals as goal
 
 pub returns-in-Count : goal.returns-in-Count
 unfolding stopped
-returns-in-Count c = rw c.written-1.given.1
+returns-in-Count c = rw c.in-Count.is
 
 pub returns-in-Refused : goal.returns-in-Refused
 unfolding stopped
-returns-in-Refused c = rw c.written-in-Refused-1.given.1
+returns-in-Refused c = rw c.in-Refused.is

@@ -24,14 +24,14 @@ slice_bounds-flipped-end c =
     let a = c.args in
     let w = set-formed a.settings a.masks.now a.stop a.specified.now a.bits.now c.requires in
     let f = c.flip_bits in
-    flipped-room a.settings.invert a.specified.now a.bits.now _ f.new.1.1.1.0 (slices_equal (length a.masks.now) a.specified.now a.bits.now w.slices) f.ensures
+    flipped-room a.settings.invert a.specified.now a.bits.now _ f.new.out (slices_equal (length a.masks.now) a.specified.now a.bits.now w.slices) f.ensures
 
 pub slice_bounds-encode_upright-end : goal.slice_bounds-encode_upright-end
 slice_bounds-encode_upright-end c =
     let a = c.args in
     let w = set-formed a.settings a.masks.now a.stop a.specified.now a.bits.now c.requires in
     let f = c.flip_bits in
-    sym (length-take-le (length a.bits.now) f.new.1.1.1.0 (flipped-room a.settings.invert a.specified.now a.bits.now _ f.new.1.1.1.0 (slices_equal (length a.masks.now) a.specified.now a.bits.now w.slices) f.ensures))
+    sym (length-take-le (length a.bits.now) f.new.out (flipped-room a.settings.invert a.specified.now a.bits.now _ f.new.out (slices_equal (length a.masks.now) a.specified.now a.bits.now w.slices) f.ensures))
 
 pub encode_upright-requires : goal.encode_upright-requires
 encode_upright-requires c =
@@ -40,7 +40,7 @@ encode_upright-requires c =
     let f = c.flip_bits in
     let u = c.upright-upright in
     let t = c.flip-shown in
-    let front = flipped-front a.settings.invert a.specified.now a.bits.now _ f.new.1.1.1.0 (slices_equal (length a.masks.now) a.specified.now a.bits.now w.slices) f.ensures in
+    let front = flipped-front a.settings.invert a.specified.now a.bits.now _ f.new.out (slices_equal (length a.masks.now) a.specified.now a.bits.now w.slices) f.ensures in
     (rw (u.ensures, t.ensures, front) (set-upright a.settings a.masks.now a.stop a.specified.now a.bits.now c.requires), rw u.ensures refl)
 
 pub returns : goal.returns
@@ -50,6 +50,6 @@ returns c =
     let f = c.flip_bits in
     let u = c.upright-upright in
     let t = c.flip-shown in
-    let front = flipped-front a.settings.invert a.specified.now a.bits.now _ f.new.1.1.1.0 (slices_equal (length a.masks.now) a.specified.now a.bits.now w.slices) f.ensures in
+    let front = flipped-front a.settings.invert a.specified.now a.bits.now _ f.new.out (slices_equal (length a.masks.now) a.specified.now a.bits.now w.slices) f.ensures in
     let e = sym (encoding-upright a.settings a.masks.now a.stop a.specified.now a.bits.now a.out.now) in
-    let r = c.encode_upright in record { answer = r.ensures.0 ∙ rw (u.ensures, t.ensures, front) (ap (λ (o : Outcome). o.answer) e); buffer = r.ensures.1 ∙ rw (u.ensures, t.ensures, front) (ap (λ (o : Outcome). o.buffer) e) }
+    let r = c.encode_upright in record { answer = r.ensures.answer ∙ rw (u.ensures, t.ensures, front) (ap (λ (o : Outcome). o.answer) e); buffer = r.ensures.buffer ∙ rw (u.ensures, t.ensures, front) (ap (λ (o : Outcome). o.buffer) e) }

@@ -10,18 +10,18 @@ use Rattle.refusal_order.specs.declared.Verdict.TheVariants as verdict
 use Rattle.encoder_sets.proofs.encode_set.Goals as goal
 
 pub encode-requires : goal.encode-requires
-encode-requires c = sym c.check_set-verdict.ensures ∙ c.enum_told-1.given.1
+encode-requires c = sym c.check_set-verdict.ensures ∙ c.in-WellFormed.is
 
 pub returns-in-Refused : goal.returns-in-Refused
 returns-in-Refused c =
     let a = c.args in
     let k = c.check_set-verdict in
-    let p = refused_parts (encode_set a.settings a.masks.now a.stop a.specified.now a.bits.now a.out.now) _ a.out.now (set_refused a.settings a.masks.now a.stop a.specified.now a.bits.now a.out.now _ (sym k.ensures ∙ c.verdict-1.given.1)) in let w = set_outcome a.settings a.masks.now a.stop a.specified.now a.bits.now a.out.now _ a.out.now p.0 p.1 in record { answer = w.0; buffer = w.1.0; meaning = w.1.1 }
+    let p = refused_parts (encode_set a.settings a.masks.now a.stop a.specified.now a.bits.now a.out.now) _ a.out.now (set_refused a.settings a.masks.now a.stop a.specified.now a.bits.now a.out.now _ (sym k.ensures ∙ c.in-Refused.is)) in let w = set_outcome a.settings a.masks.now a.stop a.specified.now a.bits.now a.out.now _ a.out.now p.0 p.1 in record { answer = w.0; buffer = w.1.0; meaning = w.1.1 }
 
 pub returns-in-WellFormed : goal.returns-in-WellFormed
 returns-in-WellFormed c =
     let a = c.args in
     let k = c.check_set-verdict in
-    let q : judged (set_faults a.settings a.masks.now a.stop a.specified.now a.bits.now) ≡ verdict.WellFormed = sym k.ensures ∙ c.enum_told-1.given.1 in
+    let q : judged (set_faults a.settings a.masks.now a.stop a.specified.now a.bits.now) ≡ verdict.WellFormed = sym k.ensures ∙ c.in-WellFormed.is in
     let e = set_well a.settings a.masks.now a.stop a.specified.now a.bits.now a.out.now q in
-    let t = c.encode in let w = set_outcome a.settings a.masks.now a.stop a.specified.now a.bits.now a.out.now t.result _ (t.ensures.0 ∙ ap (λ (o : Outcome). o.answer) (sym e)) (t.ensures.1 ∙ ap (λ (o : Outcome). o.buffer) (sym e)) in record { answer = w.0; buffer = w.1.0; meaning = w.1.1 }
+    let t = c.encode in let w = set_outcome a.settings a.masks.now a.stop a.specified.now a.bits.now a.out.now t.result _ (t.ensures.answer ∙ ap (λ (o : Outcome). o.answer) (sym e)) (t.ensures.buffer ∙ ap (λ (o : Outcome). o.buffer) (sym e)) in record { answer = w.0; buffer = w.1.0; meaning = w.1.1 }

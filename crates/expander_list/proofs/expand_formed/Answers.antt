@@ -15,32 +15,32 @@ pub returns-then-total-slices : goal.returns-then-total-slices
 returns-then-total-slices c =
     let a = c.args in
     let e = c.total_of-found.ensures in
-    let t = c.found-in-Count-1.given.0.0 in
-    let k : tally 0 (walk (machine a.settings a.masks.now) (rules a.settings a.stop) a.slices 0 0 a.seeds.now) ≡ Count t = sym e ∙ c.found-in-Count-1.given.1 in let w = refused_parts _ _ _ (found-other _ _ _ _ _ t (found _ _ _ _ a.out.now t k) c.if-total-slices.taken) in record { answer = w.0; buffer = w.1 }
+    let t = c.in-Count.total in
+    let k : tally 0 (walk (machine a.settings a.masks.now) (rules a.settings a.stop) a.slices 0 0 a.seeds.now) ≡ Count t = sym e ∙ c.in-Count.is in let w = refused_parts _ _ _ (found-other _ _ _ _ _ t (found _ _ _ _ a.out.now t k) c.if-total-slices.true) in record { answer = w.0; buffer = w.1 }
 
 pub returns-then-out-total : goal.returns-then-out-total
 returns-then-out-total c =
     let a = c.args in
     let e = c.total_of-found.ensures in
-    let t = c.found-in-Count-1.given.0.0 in
-    let k : tally 0 (walk (machine a.settings a.masks.now) (rules a.settings a.stop) a.slices 0 0 a.seeds.now) ≡ Count t = sym e ∙ c.found-in-Count-1.given.1 in let w = refused_parts _ _ _ (found_short _ _ _ _ _ t (found _ _ _ _ a.out.now t k) c.if-total-slices.left c.if-out-total.taken) in record { answer = w.0; buffer = w.1 }
+    let t = c.in-Count.total in
+    let k : tally 0 (walk (machine a.settings a.masks.now) (rules a.settings a.stop) a.slices 0 0 a.seeds.now) ≡ Count t = sym e ∙ c.in-Count.is in let w = refused_parts _ _ _ (found_short _ _ _ _ _ t (found _ _ _ _ a.out.now t k) c.if-total-slices.false c.if-out-total.true) in record { answer = w.0; buffer = w.1 }
 
 pub write_all-requires : goal.write_all-requires
 write_all-requires c =
-    let p = c.requires in record { ready = p.0; space = omega (arith, c.if-total-slices.left, c.if-out-total.left); made = p.1.1 }
+    let p = c.requires in record { ready = p.ready; space = omega (arith, c.if-total-slices.false, c.if-out-total.false); made = p.made }
 
 pub returns-in-Refused : goal.returns-in-Refused
 returns-in-Refused c =
     let a = c.args in
     let e = c.total_of-found.ensures in
-    let x = c.found-1.given.0.0 in
-    let k : tally 0 (walk (machine a.settings a.masks.now) (rules a.settings a.stop) a.slices 0 0 a.seeds.now) ≡ Refused x = sym e ∙ c.found-1.given.1 in let w = refused_parts _ _ _ (found_refused _ _ _ _ _ x k) in record { answer = w.0; buffer = w.1 }
+    let x = c.in-Refused.cause in
+    let k : tally 0 (walk (machine a.settings a.masks.now) (rules a.settings a.stop) a.slices 0 0 a.seeds.now) ≡ Refused x = sym e ∙ c.in-Refused.is in let w = refused_parts _ _ _ (found_refused _ _ _ _ _ x k) in record { answer = w.0; buffer = w.1 }
 
 pub returns-else-out-total : goal.returns-else-out-total
 returns-else-out-total c =
     let a = c.args in
     let e = c.total_of-found.ensures in
-    let t = c.found-in-Count-1.given.0.0 in
-    let k : tally 0 (walk (machine a.settings a.masks.now) (rules a.settings a.stop) a.slices 0 0 a.seeds.now) ≡ Count t = sym e ∙ c.found-in-Count-1.given.1 in
+    let t = c.in-Count.total in
+    let k : tally 0 (walk (machine a.settings a.masks.now) (rules a.settings a.stop) a.slices 0 0 a.seeds.now) ≡ Count t = sym e ∙ c.in-Count.is in
     let f = found _ _ _ _ a.out.now t k in
-    let p = outcome_parts _ _ _ (found-whole _ _ _ _ _ t f c.if-total-slices.left c.if-out-total.left) in record { answer = p.0; buffer = c.write_all.ensures f.slices f.walks (f.count ∙ c.if-total-slices.left) ∙ p.1 }
+    let p = outcome_parts _ _ _ (found-whole _ _ _ _ _ t f c.if-total-slices.false c.if-out-total.false) in record { answer = p.0; buffer = c.write_all.ensures f.slices f.walks (f.count ∙ c.if-total-slices.false) ∙ p.1 }

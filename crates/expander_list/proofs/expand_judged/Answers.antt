@@ -12,13 +12,13 @@ use Rattle.expander_list.proofs.expand_judged.Goals as goal
 pub expand_formed-requires : goal.expand_formed-requires
 expand_formed-requires c =
     let a = c.args in
-    let w : judged (list_faults a.settings a.masks.now a.stop a.slices (length a.seeds.now)) ≡ verdict.WellFormed = sym c.check_list-verdict.ensures ∙ c.enum_told-1.given.1 in record { ready = call_sized _ _ _ _ a.seeds.now a.out.now w; seeds = few_seeds a.settings a.masks.now a.stop a.slices a.seeds.now a.out.now w; made = c.requires }
+    let w : judged (list_faults a.settings a.masks.now a.stop a.slices (length a.seeds.now)) ≡ verdict.WellFormed = sym c.check_list-verdict.ensures ∙ c.in-WellFormed.is in record { ready = call_sized _ _ _ _ a.seeds.now a.out.now w; seeds = few_seeds a.settings a.masks.now a.stop a.slices a.seeds.now a.out.now w; made = c.requires }
 
 pub returns-in-Refused : goal.returns-in-Refused
 returns-in-Refused c =
-    let a = c.args in let w = refused_parts _ _ _ (call_refused _ _ _ _ a.seeds.now a.out.now _ (sym c.check_list-verdict.ensures ∙ c.verdict-1.given.1)) in record { answer = w.0; buffer = w.1 }
+    let a = c.args in let w = refused_parts _ _ _ (call_refused _ _ _ _ a.seeds.now a.out.now _ (sym c.check_list-verdict.ensures ∙ c.in-Refused.is)) in record { answer = w.0; buffer = w.1 }
 
 pub returns-in-WellFormed : goal.returns-in-WellFormed
 returns-in-WellFormed c =
     let a = c.args in
-    let q = call-formed a.settings a.masks.now a.stop a.slices a.seeds.now a.out.now (sym c.check_list-verdict.ensures ∙ c.enum_told-1.given.1) in record { answer = c.expand_formed.ensures.answer ∙ sym (ap (λ (o : Outcome). o.answer) q); buffer = c.expand_formed.ensures.buffer ∙ sym (ap (λ (o : Outcome). o.buffer) q) }
+    let q = call-formed a.settings a.masks.now a.stop a.slices a.seeds.now a.out.now (sym c.check_list-verdict.ensures ∙ c.in-WellFormed.is) in record { answer = c.expand_formed.ensures.answer ∙ sym (ap (λ (o : Outcome). o.answer) q); buffer = c.expand_formed.ensures.buffer ∙ sym (ap (λ (o : Outcome). o.buffer) q) }

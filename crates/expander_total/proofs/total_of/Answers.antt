@@ -14,7 +14,7 @@ returns-in-Refused c =
     let r = c.run_of-run in
     let there = c.loop-place-test.true in
     let owed = c.still_owed-left.ensures in
-    sym (tallied_refused _ _ _ _ _ l.place l.total l.invariant.2 there r.result _ owed r.ensures _ c.run-1.given.1)
+    sym (tallied_refused _ _ _ _ _ l.place l.total l.invariant.2 there r.result _ owed r.ensures _ c.in-Refused.is)
 
 pub returns-then-length-eq0 : goal.returns-then-length-eq0
 returns-then-length-eq0 c =
@@ -22,7 +22,7 @@ returns-then-length-eq0 c =
     let r = c.run_of-run in
     let there = c.loop-place-test.true in
     let owed = c.still_owed-left.ensures in
-    sym (tallied_nothing _ _ _ _ _ l.place l.total l.invariant.2 there r.result _ owed r.ensures _ c.run-in-Count-1.given.1 c.if-length-eq0.true)
+    sym (tallied_nothing _ _ _ _ _ l.place l.total l.invariant.2 there r.result _ owed r.ensures _ c.in-Count.is c.if-length-eq0.true)
 
 pub overflow_add-total : goal.overflow_add-total
 overflow_add-total c =
@@ -30,9 +30,9 @@ overflow_add-total c =
     let r = c.run_of-run in
     let there = c.loop-place-test.true in
     let owed = c.still_owed-left.ensures in
-    let few = few_more _ _ _ _ _ l.place l.total l.invariant.2 there r.result _ owed r.ensures _ c.run-in-Count-1.given.1 in
+    let few = few_more _ _ _ _ _ l.place l.total l.invariant.2 there r.result _ owed r.ensures _ c.in-Count.is in
     let p = c.requires in
-    omega (arith, few, l.invariant.1, p.0.limit, p.1.0)
+    omega (arith, few, l.invariant.1, p.ready.limit, p.seeds)
 
 pub loop-place-preserved : goal.loop-place-preserved
 loop-place-preserved c =
@@ -40,9 +40,9 @@ loop-place-preserved c =
     let r = c.run_of-run in
     let there = c.loop-place-test.true in
     let owed = c.still_owed-left.ensures in
-    let few = few_more _ _ _ _ _ l.place l.total l.invariant.2 there r.result _ owed r.ensures _ c.run-in-Count-1.given.1 in
+    let few = few_more _ _ _ _ _ l.place l.total l.invariant.2 there r.result _ owed r.ensures _ c.in-Count.is in
     let p = c.requires in
-    (omega arith, omega (arith, few, l.invariant.1, p.0.limit), tallied_more _ _ _ _ _ l.place l.total l.invariant.2 there r.result _ owed r.ensures _ c.run-in-Count-1.given.1 (omega arith))
+    (omega arith, omega (arith, few, l.invariant.1, p.ready.limit), tallied_more _ _ _ _ _ l.place l.total l.invariant.2 there r.result _ owed r.ensures _ c.in-Count.is (omega arith))
 
 pub returns : goal.returns
 returns c =

@@ -15,7 +15,7 @@ loop-place-init c = ((λ vs w h. filled_start _ _ _ _ _ vs _ w h), omega arith, 
 pub write_run-at-requires : goal.write_run-at-requires
 write_run-at-requires c =
     let p = c.requires in
-    let l = c.loop-place in record { ready = p.0; place = (l.invariant.2, omega (arith, l.invariant.3, p.1.0)); made = p.1.1 }
+    let l = c.loop-place in record { ready = p.ready; place = (l.invariant.2, omega (arith, l.invariant.3, p.space)); made = p.made }
 
 pub loop-place-preserved : goal.loop-place-preserved
 loop-place-preserved c =
@@ -23,10 +23,10 @@ loop-place-preserved c =
     let l = c.loop-place in
     let a = c.args in
     let there = c.loop-place-test.true in (
-      (λ vs wk h. rw (w.ensures.0, w.ensures.1) (filled_next _ _ _ _ _ vs _ l.place l.at l.out (l.invariant.0 vs wk h) there)),
+      (λ vs wk h. rw (w.ensures.place, w.ensures.buffer) (filled_next _ _ _ _ _ vs _ l.place l.at l.out (l.invariant.0 vs wk h) there)),
       omega arith,
-      omega (arith, w.ensures.0, l.invariant.2, until_length (machine a.settings a.masks.now) a.stop (a.slices - l.at) (get_or a.seeds.now l.place 0)),
-      size_kept l.out (until_stop (machine a.settings a.masks.now) a.stop (a.slices - l.at) (get_or a.seeds.now l.place 0)) _ l.at _ w.ensures.1 l.invariant.3,
+      omega (arith, w.ensures.place, l.invariant.2, until_length (machine a.settings a.masks.now) a.stop (a.slices - l.at) (get_or a.seeds.now l.place 0)),
+      size_kept l.out (until_stop (machine a.settings a.masks.now) a.stop (a.slices - l.at) (get_or a.seeds.now l.place 0)) _ l.at _ w.ensures.buffer l.invariant.3,
     )
 
 pub shape_of-out : goal.shape_of-out

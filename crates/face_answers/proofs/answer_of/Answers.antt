@@ -9,7 +9,7 @@ abbrev refusedAnswer : Refusal → Answer
 refusedAnswer r = record { number = r.number; value = r.value }
 
 pub returns-in-Count : goal.returns-in-Count
-returns-in-Count c = sym (ap answer_of c.written-1.given.1)
+returns-in-Count c = sym (ap answer_of c.in-Count.is)
 
 pub returns-in-Refused : goal.returns-in-Refused
-returns-in-Refused c = ap refusedAnswer c.refusal_of-refusal.ensures ∙ sym (ap answer_of c.written-in-Refused-1.given.1)
+returns-in-Refused c = ap refusedAnswer c.refusal_of-refusal.ensures ∙ sym (ap answer_of c.in-Refused.is)

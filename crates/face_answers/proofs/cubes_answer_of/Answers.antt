@@ -6,9 +6,9 @@ use Rattle.face_answers.specs.declared.CubesAnswer.{CubesAnswer}
 use Rattle.face_answers.proofs.cubes_answer_of.Goals as goal
 
 pub returns-in-Seeds : goal.returns-in-Seeds
-returns-in-Seeds c = sym (ap cubes_answer_of c.encoded-1.given.1)
+returns-in-Seeds c = sym (ap cubes_answer_of c.in-Seeds.is)
 
 pub returns-in-Refused : goal.returns-in-Refused
 returns-in-Refused c =
     let refused : Refusal → CubesAnswer = λ r. record { number = r.number; value = r.value; specified = 0; bits = 0 } in
-    ap refused c.refusal_of-refusal.ensures ∙ sym (ap cubes_answer_of c.encoded-in-Refused-1.given.1)
+    ap refused c.refusal_of-refusal.ensures ∙ sym (ap cubes_answer_of c.in-Refused.is)

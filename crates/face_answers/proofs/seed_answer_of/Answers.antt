@@ -6,9 +6,9 @@ use Rattle.face_answers.specs.declared.SeedAnswer.{SeedAnswer}
 use Rattle.face_answers.proofs.seed_answer_of.Goals as goal
 
 pub returns-in-Lowest : goal.returns-in-Lowest
-returns-in-Lowest c = sym (ap seed_answer_of c.seed-1.given.1)
+returns-in-Lowest c = sym (ap seed_answer_of c.in-Lowest.is)
 
 pub returns-in-Refused : goal.returns-in-Refused
 returns-in-Refused c =
     let refused : Refusal → SeedAnswer = λ r. record { number = r.number; value = r.value; seed = 0 } in
-    ap refused c.refusal_of-refusal.ensures ∙ sym (ap seed_answer_of c.seed-in-Refused-1.given.1)
+    ap refused c.refusal_of-refusal.ensures ∙ sym (ap seed_answer_of c.in-Refused.is)

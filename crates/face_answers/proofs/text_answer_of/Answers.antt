@@ -2,7 +2,7 @@
 use Rattle.face_answers.proofs.text_answer_of.Goals as goal
 
 pub returns-in-Text : goal.returns-in-Text
-returns-in-Text c = rw c.answer-1.given.1
+returns-in-Text c = rw c.in-Text.is
 
 pub returns-in-Refused : goal.returns-in-Refused
-returns-in-Refused c = rw c.answer-in-Refused-1.given.1
+returns-in-Refused c = rw c.in-Refused.is

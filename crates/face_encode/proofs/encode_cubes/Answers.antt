@@ -9,4 +9,4 @@ pub returns : goal.returns
 returns c =
     let a = c.args in
     let g = c.settings_of-given in
-    let e = c.encode_cubes-encoded in record { answer = c.cubes_answer_of.ensures ∙ ap cubes_answer_of (rw g.ensures at e.ensures.0); buffer = rw g.ensures at e.ensures.1.0; meaning = cubes_means (settings_of a.settings) a.masks.now a.specified.now a.bits.now a.out.now a.depth }
+    let e = c.encode_cubes-encoded in record { answer = c.cubes_answer_of.ensures ∙ ap cubes_answer_of (rw g.ensures at e.ensures.answer); buffer = rw g.ensures at e.ensures.buffer; meaning = cubes_means (settings_of a.settings) a.masks.now a.specified.now a.bits.now a.out.now a.depth }

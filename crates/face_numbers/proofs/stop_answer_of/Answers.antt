@@ -9,7 +9,7 @@ abbrev refusedStop : Refusal → StopAnswer
 refusedStop r = record { number = r.number; value = r.value; specified = 0; bits = 0 }
 
 pub returns-in-Stop : goal.returns-in-Stop
-returns-in-Stop c = sym (ap stop_answer_of c.formed-1.given.1)
+returns-in-Stop c = sym (ap stop_answer_of c.in-Stop.is)
 
 pub returns-in-Refused : goal.returns-in-Refused
-returns-in-Refused c = ap refusedStop c.refusal_of-refusal.ensures ∙ sym (ap stop_answer_of c.formed-in-Refused-1.given.1)
+returns-in-Refused c = ap refusedStop c.refusal_of-refusal.ensures ∙ sym (ap stop_answer_of c.in-Refused.is)

@@ -40,14 +40,14 @@ loop-row-preserved c =
     let a = c.args in
     let l = c.loop-row in
     let o = c.fill_row in
-    let k : length o.new.1.1.1.1.1.1.0 ≡ length l.words = o.auto.1.1.1.1.1.1.0 in
+    let k : length o.new.words ≡ length l.words = o.auto.words in
     let room : l.count * (a.pattern.columns * 2) + a.pattern.columns * 2 ≤ length l.words = omega (arith, l.invariant.2) in (
       omega arith,
       ⊎_elim (λ v. omega (arith, v.1)) (λ v. omega (arith, v.1)) c.if-fill_row.branch,
       k ∙ l.invariant.2,
       ⊎_elim
-          (λ v. rw v.1 (filled_row a.pattern a.table.now a.rows a.lowest (take a.free a.vectors.now) l.words o.new.1.1.1.1.1.1.0 l.count _ refl k o.ensures.0 l.invariant.3 l.row (omega arith) room (o.ensures.1 v.0.taken)))
-          (λ v. rw v.1 (filled_same a.pattern a.table.now a.rows a.lowest (take a.free a.vectors.now) l.words o.new.1.1.1.1.1.1.0 l.count _ refl k o.ensures.0 l.invariant.3))
+          (λ v. rw v.1 (filled_row a.pattern a.table.now a.rows a.lowest (take a.free a.vectors.now) l.words o.new.words l.count _ refl k o.ensures.before l.invariant.3 l.row (omega arith) room (o.ensures.words v.0.taken)))
+          (λ v. rw v.1 (filled_same a.pattern a.table.now a.rows a.lowest (take a.free a.vectors.now) l.words o.new.words l.count _ refl k o.ensures.before l.invariant.3))
           c.if-fill_row.branch,
     )
 

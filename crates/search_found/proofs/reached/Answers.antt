@@ -2,4 +2,4 @@
 use Rattle.search_found.proofs.reached.Goals as goal
 
 pub returns-in-State : goal.returns-in-State
-returns-in-State c = rw c.found-1.given.1
+returns-in-State c = rw c.in-State.is

@@ -4,7 +4,7 @@ use Rattle.search_lowest.proofs.lowest_clear.Goals as goal
 
 pub returns-in-State : goal.returns-in-State
 returns-in-State c =
-    let e = c.found-1.given.1 in
+    let e = c.in-State.is in
     sym e ∙ c.rise-found.ensures _ e
 
 pub returns : goal.returns

@@ -15,10 +15,10 @@ pub returns-then-space-2 : goal.returns-then-space-2
 returns-then-space-2 c =
     let a = c.args in
     let t = c.take_out-taken in
-    let x = c.shifted-lowest in record { answer = restricted_with a.mask a.wanted (take a.space.free a.vectors.now) a.space t.result x.result _ t.ensures.0 x.ensures (rw (c.if-space-2.true, c.odd-then-space-2.ensures)); buffer = t.ensures.1 }
+    let x = c.shifted-lowest in record { answer = restricted_with a.mask a.wanted (take a.space.free a.vectors.now) a.space t.result x.result _ t.ensures.answer x.ensures (rw (c.if-space-2.true, c.odd-then-space-2.ensures)); buffer = t.ensures.buffer }
 
 pub returns-else-space-2 : goal.returns-else-space-2
 returns-else-space-2 c =
     let a = c.args in
     let t = c.take_out-taken in
-    let x = c.shifted-lowest in record { answer = restricted_with a.mask a.wanted (take a.space.free a.vectors.now) a.space t.result x.result _ t.ensures.0 x.ensures (rw c.if-space-2.false); buffer = t.ensures.1 }
+    let x = c.shifted-lowest in record { answer = restricted_with a.mask a.wanted (take a.space.free a.vectors.now) a.space t.result x.result _ t.ensures.answer x.ensures (rw c.if-space-2.false); buffer = t.ensures.buffer }

@@ -14,7 +14,7 @@ returns-in-Neither c =
     let a = c.args in
     let l = c.loop-place in
     across_neither a.pattern.columns a.table.now a.row c.requires a.lowest (take a.free a.vectors.now) (l.place + 1) (l.bits / 2) c.together-shows.result
-    (across-next a.pattern.columns a.table.now a.row c.requires a.lowest (take a.free a.vectors.now) l.place l.bits l.shows c.column-one.result c.together-shows.result (omega arith) c.column-one.ensures c.together-shows.ensures l.invariant.1) c.enum_told-1.given.1
+    (across-next a.pattern.columns a.table.now a.row c.requires a.lowest (take a.free a.vectors.now) l.place l.bits l.shows c.column-one.result c.together-shows.result (omega arith) c.column-one.ensures c.together-shows.ensures l.invariant.1) c.in-Neither.is
 
 pub loop-place-preserved : goal.loop-place-preserved
 loop-place-preserved c =

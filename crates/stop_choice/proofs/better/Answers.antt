@@ -6,7 +6,7 @@ use Rattle.stop_choice.proofs.better.Goals as goal
 
 pub returns-in-Nothing : goal.returns-in-Nothing
 unfolding track
-returns-in-Nothing c = let a = c.args in sym (ap (track a.choice a.count) c.enum_told-1.given.1)
+returns-in-Nothing c = let a = c.args in sym (ap (track a.choice a.count) c.in-Nothing.is)
 
 pub returns-then-most-count : goal.returns-then-most-count
 returns-then-most-count c =

@@ -12,15 +12,15 @@ returns-then-count_in-eq0 c = sym (next_empty _ _ _ _ (sym c.count_in.ensures �
 pub put-requires : goal.put-requires
 put-requires c =
     let b = c.best-1.given.0 in
-    let e : chosen c.args.chains c.args.stop c.args.specified.now c.args.bits.now ≡ Choice b.0 b.1.0 = sym c.choose-best.ensures ∙ c.best-1.given.1 in record { unset = chosen_unset _ _ _ _ _ _ c.requires.chains c.requires.stop e; bit = omega arith }
+    let e : chosen c.args.chains c.args.stop c.args.specified.now c.args.bits.now ≡ Choice b.0 b.1.0 = sym c.choose-best.ensures ∙ c.in-Choice.is in record { unset = chosen_unset _ _ _ _ _ _ c.requires.chains c.requires.stop e; bit = omega arith }
 
 pub returns-in-Nothing : goal.returns-in-Nothing
 returns-in-Nothing c =
-    let e : chosen c.args.chains c.args.stop c.args.specified.now c.args.bits.now ≡ Nothing = sym c.choose-best.ensures ∙ c.enum_told-1.given.1 in
+    let e : chosen c.args.chains c.args.stop c.args.specified.now c.args.bits.now ≡ Nothing = sym c.choose-best.ensures ∙ c.in-Nothing.is in
     sym (next-none _ _ _ _ (λ z. c.if-count_in-eq0.false (c.count_in.ensures ∙ z)) e)
 
 pub returns-in-Choice : goal.returns-in-Choice
 returns-in-Choice c =
     let b = c.best-1.given.0 in
-    let e : chosen c.args.chains c.args.stop c.args.specified.now c.args.bits.now ≡ Choice b.0 b.1.0 = sym c.choose-best.ensures ∙ c.best-1.given.1 in
+    let e : chosen c.args.chains c.args.stop c.args.specified.now c.args.bits.now ≡ Choice b.0 b.1.0 = sym c.choose-best.ensures ∙ c.in-Choice.is in
     c.put.ensures ∙ sym (next_some _ _ _ _ _ _ (λ z. c.if-count_in-eq0.false (c.count_in.ensures ∙ z)) e)

@@ -4,7 +4,7 @@ use Rattle.stop_slice.proofs.Forming.{spare-stop, spare_six}
 use Rattle.stop_slice.proofs.spared.Goals as goal
 
 pub returns-in-Spare : goal.returns-in-Spare
-returns-in-Spare c = spare-stop _ _ (sym c.spare.ensures ∙ c.pattern-1.given.1)
+returns-in-Spare c = spare-stop _ _ (sym c.spare.ensures ∙ c.in-Spare.is)
 
 pub returns-in-AllTaken : goal.returns-in-AllTaken
-returns-in-AllTaken c = spare_six _ (sym c.spare.ensures ∙ c.enum_told-1.given.1)
+returns-in-AllTaken c = spare_six _ (sym c.spare.ensures ∙ c.in-AllTaken.is)

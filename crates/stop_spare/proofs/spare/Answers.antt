@@ -3,7 +3,6 @@ use mathlib.Core.Path.{◌≡◌, sym, ap, ◌∙◌}
 use Prim.Native.Nat.{◌-◌, ◌^◌}
 use native.Mathlib.Omega.{arith}
 use borrow.Author.Rules.{rules}
-use borrow.Author.Tests.{not-true, not-false}
 use Rattle.words_gf2.proofs.Digits.{one_shifted}
 use Rattle.machine_slices.specs.Slices.{paired}
 use Rattle.stop_spare.specs.Answer.{pattern_of}
@@ -12,11 +11,11 @@ use Rattle.stop_spare.proofs.spare.Goals as goal
 
 pub overflow_shl-patterns : goal.overflow_shl-patterns
 overflow_shl-patterns c =
-    patterns_fit c.args.chains c.args.specified.now c.args.bits.now c.requires (search rules)
+    patterns_fit c.args.chains c.args.specified.now c.args.bits.now c.requires.few (search rules)
 
 pub loop-candidate-init : goal.loop-candidate-init
 loop-candidate-init c =
-    (one_shifted c.args.chains (patterns_fit c.args.chains c.args.specified.now c.args.bits.now c.requires (search rules)), omega arith, λ v h. absurd (omega arith))
+    (one_shifted c.args.chains (patterns_fit c.args.chains c.args.specified.now c.args.bits.now c.requires.few (search rules)), omega arith, λ v h. absurd (omega arith))
 
 pub returns-then-not-taken : goal.returns-then-not-taken
 returns-then-not-taken c =
@@ -24,7 +23,7 @@ returns-then-not-taken c =
     let a = c.args in
     let e = l.invariant.0 in
     let p = c.pattern_of-pattern.ensures in
-    let free = sym c.taken.ensures ∙ not-true _ c.if-not-taken.true in
+    let free = sym c.taken.ensures ∙ c.if-not-taken.true in
     rw (p, e) (sym (ap pattern_of (spare-found a.chains (paired a.specified.now a.bits.now) l.candidate (omega arith) l.invariant.2 (rw (p, e) at free))))
 
 pub loop-candidate-preserved : goal.loop-candidate-preserved
@@ -33,7 +32,7 @@ loop-candidate-preserved c =
     let a = c.args in
     let e = l.invariant.0 in
     let p = c.pattern_of-pattern.ensures in
-    let held = sym c.taken.ensures ∙ not-false _ c.if-not-taken.false in
+    let held = sym c.taken.ensures ∙ c.if-not-taken.false in
     (e, omega arith, passed_more a.chains (paired a.specified.now a.bits.now) l.candidate l.invariant.2 (rw (p, e) at held))
 
 pub returns : goal.returns

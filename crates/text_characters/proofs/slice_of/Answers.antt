@@ -3,7 +3,6 @@
 use mathlib.Core.Path.{sym, ◌∙◌}
 use Prim.Native.Nat.{◌-◌}
 use native.Mathlib.Omega.{arith}
-use borrow.Author.Tests.{not-true, not-false}
 use lib.ListN.{length}
 use lib.Pow.{pow_pos}
 use Rattle.text_characters.specs.Characters.{slice_of}
@@ -21,7 +20,7 @@ bounds-value-i c = omega arith
 
 pub returns-then-not-is_character : goal.returns-then-not-is_character
 returns-then-not-is_character c =
-    sym (slice-none _ c.loop-i.i _ _ (omega arith) c.loop-i.invariant.0 c.loop-i.invariant.1 (sym c.is_character.ensures ∙ not-true _ c.if-not-is_character.true))
+    sym (slice-none _ c.loop-i.i _ _ (omega arith) c.loop-i.invariant.0 c.loop-i.invariant.1 (sym c.is_character.ensures ∙ c.if-not-is_character.true))
 
 pub overflow_mul-specified : goal.overflow_mul-specified
 overflow_mul-specified c =
@@ -48,7 +47,7 @@ pub loop-i-preserved : goal.loop-i-preserved
 loop-i-preserved c =
     let l = c.args.value.now in
     let pre = c.requires in
-    rw (c.bit_at.ensures, c.specified_at.ensures) (omega arith, slice_go l c.loop-i.i _ _ (omega arith) c.loop-i.invariant.0 c.loop-i.invariant.1 (sym c.is_character.ensures ∙ not-false _ c.if-not-is_character.false), (slice_fits c.loop-i.specified _ c.loop-i.i (length l) pre (omega arith) c.loop-i.invariant.0 c.loop-i.invariant.2 (specified_lt _)).0, (slice_fits c.loop-i.bits _ c.loop-i.i (length l) pre (omega arith) c.loop-i.invariant.0 c.loop-i.invariant.3 (bit_lt _)).0)
+    rw (c.bit_at.ensures, c.specified_at.ensures) (omega arith, slice_go l c.loop-i.i _ _ (omega arith) c.loop-i.invariant.0 c.loop-i.invariant.1 (sym c.is_character.ensures ∙ c.if-not-is_character.false), (slice_fits c.loop-i.specified _ c.loop-i.i (length l) pre (omega arith) c.loop-i.invariant.0 c.loop-i.invariant.2 (specified_lt _)).0, (slice_fits c.loop-i.bits _ c.loop-i.i (length l) pre (omega arith) c.loop-i.invariant.0 c.loop-i.invariant.3 (bit_lt _)).0)
 
 pub returns : goal.returns
 returns c = sym (slice_end _ c.loop-i.i _ _ (omega arith) c.loop-i.invariant.1)

@@ -8,7 +8,7 @@ use Rattle.text_encode.proofs.encode_entries.Goals as goal
 
 pub slice_bounds-head-end : goal.slice_bounds-head-end
 slice_bounds-head-end c =
-    omega (arith, head_long (entries_in c.args.entries.now) c.requires _ _ c.write_head-size.ensures, length-take c.write_head-size.result c.write_head-size.new.1.0)
+    omega (arith, head_long (entries_in c.args.entries.now) c.requires _ _ c.write_head-size.ensures, length-take c.write_head-size.result c.write_head-size.new.head)
 
 pub slice_bounds-encode_under-end : goal.slice_bounds-encode_under-end
 slice_bounds-encode_under-end c =

@@ -5,7 +5,7 @@ use Rattle.text_lines.proofs.formed.Goals as goal
 
 pub returns-in-Known : goal.returns-in-Known
 returns-in-Known c =
-    c.keyed.ensures ∙ sym (formed_known _ _ _ (sym c.key_of.ensures ∙ c.key-1.given.1))
+    c.keyed.ensures ∙ sym (formed_known _ _ _ (sym c.key_of.ensures ∙ c.in-Known.is))
 
 pub returns-in-Unknown : goal.returns-in-Unknown
-returns-in-Unknown c = sym (formed_unknown _ _ (sym c.key_of.ensures ∙ c.enum_told-1.given.1))
+returns-in-Unknown c = sym (formed_unknown _ _ (sym c.key_of.ensures ∙ c.in-Unknown.is))

@@ -4,8 +4,8 @@ use Rattle.text_lines.proofs.numbered.Goals as goal
 
 pub returns-in-Value : goal.returns-in-Value
 unfolding numbered
-returns-in-Value c = rw c.numeral-1.given.1
+returns-in-Value c = rw c.in-Value.is
 
 pub returns-in-Nothing : goal.returns-in-Nothing
 unfolding numbered
-returns-in-Nothing c = rw c.enum_told-1.given.1
+returns-in-Nothing c = rw c.in-Nothing.is

@@ -4,8 +4,8 @@ use Rattle.text_lines.proofs.sliced.Goals as goal
 
 pub returns-in-Slice : goal.returns-in-Slice
 unfolding sliced
-returns-in-Slice c = rw c.said-1.given.1
+returns-in-Slice c = rw c.in-Slice.is
 
 pub returns-in-Nothing : goal.returns-in-Nothing
 unfolding sliced
-returns-in-Nothing c = rw c.enum_told-1.given.1
+returns-in-Nothing c = rw c.in-Nothing.is

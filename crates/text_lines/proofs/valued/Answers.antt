@@ -8,14 +8,14 @@ use Rattle.text_lines.proofs.valued.Goals as goal
 pub returns-in-Decimal : goal.returns-in-Decimal
 unfolding notation
 returns-in-Decimal c =
-    c.numbered.ensures ∙ ap (numbered _) c.number.ensures ∙ sym (valued_decimal _ _ _ (sym (ap (λ x. x.3) c.spelling_of-notation.ensures) ∙ c.enum_told-1.given.1))
+    c.numbered.ensures ∙ ap (numbered _) c.number.ensures ∙ sym (valued_decimal _ _ _ (sym (ap (λ x. x.3) c.spelling_of-notation.ensures) ∙ c.in-Decimal.is))
 
 pub returns-in-Hexadecimal : goal.returns-in-Hexadecimal
 unfolding notation
 returns-in-Hexadecimal c =
-    c.numbered-in-Hexadecimal.ensures ∙ ap (numbered _) c.number-in-Hexadecimal.ensures ∙ sym (valued_hexadecimal _ _ _ (sym (ap (λ x. x.3) c.spelling_of-notation.ensures) ∙ c.enum_told-in-Hexadecimal-1.given.1))
+    c.numbered-in-Hexadecimal.ensures ∙ ap (numbered _) c.number-in-Hexadecimal.ensures ∙ sym (valued_hexadecimal _ _ _ (sym (ap (λ x. x.3) c.spelling_of-notation.ensures) ∙ c.in-Hexadecimal.is))
 
 pub returns-in-Chainwise : goal.returns-in-Chainwise
 unfolding notation
 returns-in-Chainwise c =
-    c.characters.ensures ∙ sym (valued_chainwise _ _ _ (sym (ap (λ x. x.3) c.spelling_of-notation.ensures) ∙ c.enum_told-in-Chainwise-1.given.1))
+    c.characters.ensures ∙ sym (valued_chainwise _ _ _ (sym (ap (λ x. x.3) c.spelling_of-notation.ensures) ∙ c.in-Chainwise.is))

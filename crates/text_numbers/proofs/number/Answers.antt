@@ -3,24 +3,23 @@
 use mathlib.Core.Logic.{⊎_elim, inl, inr}
 use mathlib.Core.Path.{sym, ◌∙◌}
 use native.Mathlib.Nat.{pow-le-pow_right, le_trans}
-use borrow.Author.Tests.{not-true, not-false}
 use Rattle.words_bounded.proofs.Tests.{within_yes}
 use Rattle.text_numbers.proofs.Numerals.{zero_leads, no_zero_leads, number-length, number_zero, number_digits}
 use Rattle.text_numbers.proofs.number.Goals as goal
 
 pub returns-then-not-within : goal.returns-then-not-within
-returns-then-not-within c = sym (number-length _ _ _ (sym c.within.ensures ∙ not-true _ c.if-not-within.true))
+returns-then-not-within c = sym (number-length _ _ _ (sym c.within.ensures ∙ c.if-not-within.true))
 
 pub returns-then-value-eq48 : goal.returns-then-value-eq48
 returns-then-value-eq48 c =
-    sym (number_zero _ _ _ (sym c.within.ensures ∙ not-false _ c.if-not-within.false) (zero_leads _ c.if-value-gt1.true c.if-value-eq48.true))
+    sym (number_zero _ _ _ (sym c.within.ensures ∙ c.if-not-within.false) (zero_leads _ c.if-value-gt1.true c.if-value-eq48.true))
 
 pub digits-requires : goal.digits-requires
 digits-requires c =
     let pre = c.requires in
-    (pre.0, le_trans (pow-le-pow_right pre.0 (within_yes _ _ _ (sym c.within.ensures ∙ not-false _ c.if-not-within.false)).1) pre.1)
+    (pre.0, le_trans (pow-le-pow_right pre.0 (within_yes _ _ _ (sym c.within.ensures ∙ c.if-not-within.false)).1) pre.1)
 
 pub returns : goal.returns
 returns c =
-    let w = sym c.within.ensures ∙ not-false _ c.if-not-within.false in
+    let w = sym c.within.ensures ∙ c.if-not-within.false in
     c.digits.ensures ∙ sym (number_digits _ _ _ w (no_zero_leads _ (⊎_elim (λ w. inr w.2.left) (λ w. inl w.left) c.if-value-gt1.branch)))

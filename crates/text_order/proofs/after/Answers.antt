@@ -10,8 +10,8 @@ after_at-sets-requires c = rw c.rank.ensures (placed c.args.key).within
 
 pub returns-in-Sheet : goal.returns-in-Sheet
 returns-in-Sheet c =
-    rw c.enum_told-1.given.1 (ap (λ s. s.0) (c.after_at-sets.ensures ∙ ap (λ i. sets_of (row_at i).key) c.rank.ensures ∙ ap sets_of (placed c.args.key).key))
+    rw c.in-Sheet.is (ap (λ s. s.0) (c.after_at-sets.ensures ∙ ap (λ i. sets_of (row_at i).key) c.rank.ensures ∙ ap sets_of (placed c.args.key).key))
 
 pub returns-in-SeedList : goal.returns-in-SeedList
 returns-in-SeedList c =
-    rw c.enum_told-in-SeedList-1.given.1 (ap (λ s. s.1) (c.after_at-sets.ensures ∙ ap (λ i. sets_of (row_at i).key) c.rank.ensures ∙ ap sets_of (placed c.args.key).key))
+    rw c.in-SeedList.is (ap (λ s. s.1) (c.after_at-sets.ensures ∙ ap (λ i. sets_of (row_at i).key) c.rank.ensures ∙ ap sets_of (placed c.args.key).key))

@@ -4,8 +4,8 @@ use Rattle.text_ranges.proofs.Ranging.{saying-said, saying_refused}
 use Rattle.text_ranges.proofs.saying.Goals as goal
 
 pub returns-in_default : goal.returns-in_default
-returns-in_default c = let g = c.enum_told-1.given.1 in g ∙ sym (saying_refused _ _ _ _ (sym c.formed-said.ensures ∙ g))
+returns-in_default c = let g = c.in_default.is in g ∙ sym (saying_refused _ _ _ _ (sym c.formed-said.ensures ∙ g))
 
 pub returns : goal.returns
 returns c =
-    c.tested.ensures ∙ sym (saying-said _ _ _ _ (sym c.formed-said.ensures ∙ c.said-1.given.1))
+    c.tested.ensures ∙ sym (saying-said _ _ _ _ (sym c.formed-said.ensures ∙ c.in-Said.is))

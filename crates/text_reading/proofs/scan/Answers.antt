@@ -23,7 +23,7 @@ pub shape_of-entries-in_default : goal.shape_of-entries-in_default
 shape_of-entries-in_default c = left_long _ _ _ _ _ _ _ _ c.loop-at.invariant
 
 pub returns-in_default : goal.returns-in_default
-returns-in_default c = let w = rw c.refusal_of_line.ensures (left_refused _ _ _ _ _ _ _ _ c.loop-at.invariant _ c.line_end-end.ensures c.if-text-end.false _ c.saying-line.ensures _ c.enum_told-1.given.1) in record { answer = w.0; entries = w.1 }
+returns-in_default c = let w = rw c.refusal_of_line.ensures (left_refused _ _ _ _ _ _ _ _ c.loop-at.invariant _ c.line_end-end.ensures c.if-text-end.false _ c.saying-line.ensures _ c.in_default.is) in record { answer = w.0; entries = w.1 }
 
 pub moved-place-requires : goal.moved-place-requires
 moved-place-requires c = let w = c.loop-at.invariant in omega (arith, c.if-text-end.false, c.line_end-end.ensures, w.lines, w.counted)
@@ -39,7 +39,7 @@ loop-at-smaller c = let w = c.loop-at.invariant in omega (arith, c.if-text-end.f
 
 pub loop-at-preserved : goal.loop-at-preserved
 loop-at-preserved c =
-    let g = left_step _ _ _ _ _ _ _ _ c.loop-at.invariant _ c.line_end-end.ensures c.if-text-end.false _ c.saying-line.ensures _ c.line-1.given.1 in
+    let g = left_step _ _ _ _ _ _ _ _ c.loop-at.invariant _ c.line_end-end.ensures c.if-text-end.false _ c.saying-line.ensures _ c.in-Said.is in
     rw (c.moved-place.ensures, c.keep-next.ensures.next, c.keep-next.ensures.list) g
 
 pub shape_of-entries : goal.shape_of-entries

@@ -4,8 +4,8 @@ use Rattle.text_replies.proofs.answered.Goals as goal
 
 pub returns-in-Count : goal.returns-in-Count
 unfolding answered
-returns-in-Count c = rw c.written-1.given.1
+returns-in-Count c = rw c.in-Count.is
 
 pub returns-in-Refused : goal.returns-in-Refused
 unfolding answered
-returns-in-Refused c = rw (c.written-in-Refused-1.given.1, c.refusal_of.ensures)
+returns-in-Refused c = rw (c.in-Refused.is, c.refusal_of.ensures)

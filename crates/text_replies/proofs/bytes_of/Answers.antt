@@ -4,8 +4,8 @@ use Rattle.text_replies.proofs.bytes_of.Goals as goal
 
 pub returns-in-Count : goal.returns-in-Count
 unfolding bytes_of
-returns-in-Count c = rw c.written-1.given.1
+returns-in-Count c = rw c.in-Count.is
 
 pub returns-in-Refused : goal.returns-in-Refused
 unfolding bytes_of
-returns-in-Refused c = rw c.enum_told-1.given.1
+returns-in-Refused c = rw c.in-Refused.is

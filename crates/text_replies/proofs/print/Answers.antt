@@ -5,8 +5,8 @@ use Rattle.text_replies.proofs.print.Goals as goal
 
 pub returns-in-Text : goal.returns-in-Text
 unfolding shown
-returns-in-Text c = let w = rw c.answer-1.given.1 (refl, refl) in record { count = w.0; buffer = w.1 }
+returns-in-Text c = let w = rw c.in-Text.is (refl, refl) in record { count = w.0; buffer = w.1 }
 
 pub returns-in-Refused : goal.returns-in-Refused
 unfolding shown
-returns-in-Refused c = let w = rw c.answer-in-Refused-1.given.1 (c.bytes_of.ensures ∙ ap bytes_of c.write_refusal.ensures.answer, c.write_refusal.ensures.buffer) in record { count = w.0; buffer = w.1 }
+returns-in-Refused c = let w = rw c.in-Refused.is (c.bytes_of.ensures ∙ ap bytes_of c.write_refusal.ensures.answer, c.write_refusal.ensures.buffer) in record { count = w.0; buffer = w.1 }

@@ -7,9 +7,9 @@ use Rattle.text_write_numbers.proofs.put_number.Goals as goal
 pub put-requires : goal.put-requires
 put-requires c =
     let s = c.numeral-i in
-    rw (digits-taken s.new.1.1.0 s.result s.auto.1.1.0 ∙ s.ensures.1) c.requires.2
+    rw (digits-taken s.new.digits s.result s.auto.digits ∙ s.ensures.1) c.requires.2
 
 pub returns : goal.returns
 returns c =
     let s = c.numeral-i in
-    rw (← (digits-taken s.new.1.1.0 s.result s.auto.1.1.0 ∙ s.ensures.1)) c.put.ensures
+    rw (← (digits-taken s.new.digits s.result s.auto.digits ∙ s.ensures.1)) c.put.ensures

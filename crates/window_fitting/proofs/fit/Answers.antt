@@ -27,7 +27,7 @@ loop-slice-preserved c =
     let l = c.loop-slice in
     let m = c.meet_row-kept in (
       omega (arith, c.loop-slice-test.true),
-      m.auto.0 ∙ l.invariant.1,
+      m.auto.vectors ∙ l.invariant.1,
       fitted_next a.chains a.table.now a.specified.now a.bits.now c.requires.bits_value a.space (take a.space.free a.vectors.now) l.slice l.auto _ m.result _ c.loop-slice-test.true l.invariant.2 m.ensures,
     )
 

@@ -14,16 +14,16 @@ loop-kept-preserved c =
     let g = c.force_rows-kept in
     let l = c.loop-kept in
     let o = c.force_rows-kept-in-loop-kept in (
-      o.auto.1.1.1.0 ∙ l.invariant.0,
-      keeps_then (clear a.pattern a.stops.now a.rows) g.result (take g.result.free g.new.1.1.1.0) l.auto (take l.auto.free l.vectors) o.result (take o.result.free o.new.1.1.1.0) l.invariant.1 o.ensures,
+      o.auto.vectors ∙ l.invariant.0,
+      keeps_then (clear a.pattern a.stops.now a.rows) g.result (take g.result.free g.new.vectors) l.auto (take l.auto.free l.vectors) o.result (take o.result.free o.new.vectors) l.invariant.1 o.ensures,
     )
 
 pub shape_of-vectors : goal.shape_of-vectors
-shape_of-vectors c = c.loop-kept.invariant.0 ∙ c.force_rows-kept.auto.1.1.1.0
+shape_of-vectors c = c.loop-kept.invariant.0 ∙ c.force_rows-kept.auto.vectors
 
 pub returns : goal.returns
 returns c =
     let a = c.args in
     let g = c.force_rows-kept in
     let l = c.loop-kept in
-    keeps_then (clear a.pattern a.stops.now a.rows) a.space (take a.space.free a.vectors.now) g.result (take g.result.free g.new.1.1.1.0) l.auto (take l.auto.free l.vectors) g.ensures l.invariant.1
+    keeps_then (clear a.pattern a.stops.now a.rows) a.space (take a.space.free a.vectors.now) g.result (take g.result.free g.new.vectors) l.auto (take l.auto.free l.vectors) g.ensures l.invariant.1

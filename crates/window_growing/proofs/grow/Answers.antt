@@ -36,14 +36,14 @@ returns-then-not-kept c =
     let l = c.loop-slice in
     let m = c.meet_row-kept in
     let w = paired a.specified.now a.bits.now in
-    let f = fitted_next a.chains a.table.now a.specified.now a.bits.now c.requires.slices (all_states a.cells) (units_of a.cells) l.slice l.auto (take l.auto.free l.vectors) m.result (take m.result.free m.new.0) c.loop-slice-test.true l.invariant.3.fitted m.ensures in
-    grown_stop a.chains a.table.now a.specified.now a.bits.now c.requires.slices a.cells c.requires.space (length a.spaces.now) l.slice l.auto (take l.auto.free l.vectors) l.spaces m.result (take m.result.free m.new.0) c.loop-slice-test.true l.invariant.3 f (not-true m.result.some c.if-not-kept.true)
+    let f = fitted_next a.chains a.table.now a.specified.now a.bits.now c.requires.slices (all_states a.cells) (units_of a.cells) l.slice l.auto (take l.auto.free l.vectors) m.result (take m.result.free m.new.vectors) c.loop-slice-test.true l.invariant.3.fitted m.ensures in
+    grown_stop a.chains a.table.now a.specified.now a.bits.now c.requires.slices a.cells c.requires.space (length a.spaces.now) l.slice l.auto (take l.auto.free l.vectors) l.spaces m.result (take m.result.free m.new.vectors) c.loop-slice-test.true l.invariant.3 f (not-true m.result.some c.if-not-kept.true)
 
 pub slice_bounds-store-end : goal.slice_bounds-store-end
-slice_bounds-store-end c = sym (c.meet_row-kept.auto.0 ∙ c.loop-slice.invariant.1)
+slice_bounds-store-end c = sym (c.meet_row-kept.auto.vectors ∙ c.loop-slice.invariant.1)
 
 pub store-requires : goal.store-requires
-store-requires c = record { place_in_bounds = omega (arith, c.loop-slice.invariant.3.long); vectors_len = c.meet_row-kept.auto.0 ∙ c.loop-slice.invariant.1 }
+store-requires c = record { place_in_bounds = omega (arith, c.loop-slice.invariant.3.long); vectors_len = c.meet_row-kept.auto.vectors ∙ c.loop-slice.invariant.1 }
 
 pub loop-slice-preserved : goal.loop-slice-preserved
 loop-slice-preserved c =
@@ -51,14 +51,14 @@ loop-slice-preserved c =
     let l = c.loop-slice in
     let m = c.meet_row-kept in
     let w = paired a.specified.now a.bits.now in
-    let f = fitted_next a.chains a.table.now a.specified.now a.bits.now c.requires.slices (all_states a.cells) (units_of a.cells) l.slice l.auto (take l.auto.free l.vectors) m.result (take m.result.free m.new.0) c.loop-slice-test.true l.invariant.3.fitted m.ensures in
+    let f = fitted_next a.chains a.table.now a.specified.now a.bits.now c.requires.slices (all_states a.cells) (units_of a.cells) l.slice l.auto (take l.auto.free l.vectors) m.result (take m.result.free m.new.vectors) c.loop-slice-test.true l.invariant.3.fitted m.ensures in
     let e = not-false m.result.some c.if-not-kept.false in (
       omega arith,
-      m.auto.0 ∙ l.invariant.1,
+      m.auto.vectors ∙ l.invariant.1,
       l.invariant.2,
       ⊎_elim
-          (λ v. rw v.6 (growing_next a.chains a.table.now w a.cells (length a.spaces.now) l.slice l.auto (take l.auto.free l.vectors) l.spaces l.invariant.3 m.result (take m.result.free m.new.0) f e v.3.last.0 v.3.kept.0 v.3.ensures.0 v.3.ensures.1))
-          (λ v. rw v.1 (growing_beyond a.chains a.table.now w a.cells (length a.spaces.now) l.slice l.auto (take l.auto.free l.vectors) l.spaces l.invariant.3 m.result (take m.result.free m.new.0) f e (omega (arith, v.0.left))))
+          (λ v. rw v.6 (growing_next a.chains a.table.now w a.cells (length a.spaces.now) l.slice l.auto (take l.auto.free l.vectors) l.spaces l.invariant.3 m.result (take m.result.free m.new.vectors) f e v.3.last.0 v.3.kept.0 v.3.ensures.0 v.3.ensures.1))
+          (λ v. rw v.1 (growing_beyond a.chains a.table.now w a.cells (length a.spaces.now) l.slice l.auto (take l.auto.free l.vectors) l.spaces l.invariant.3 m.result (take m.result.free m.new.vectors) f e (omega (arith, v.0.left))))
           c.if-slice-places.branch,
     )
 

@@ -52,7 +52,7 @@ returns-in-State c =
     let f = c.length_seed-found in
     let e : j.closing ≡ (a.sought.closing || ltb l.slices (length a.specified.now)) = ⊎_elim (λ v. rw (v.1, v.0.taken)) (λ v. rw (v.1, v.0.left)) j.branch in
     let t = tried a.sought.settings a.masks.now a.sought.stop a.sought.pattern a.table.now a.stops.now a.specified.now a.bits.now c.requires.ready c.requires.slices a.sought.closing l.slices j.closing e in
-    reach-found (machine a.sought.settings a.masks.now) a.sought.stop a.sought.closing (paired a.specified.now a.bits.now) l.slices _ c.loop-slices-test.true l.invariant.1 (sym t ∙ state_some _ _ (sym f.ensures ∙ c.found-1.given.1))
+    reach-found (machine a.sought.settings a.masks.now) a.sought.stop a.sought.closing (paired a.specified.now a.bits.now) l.slices _ c.loop-slices-test.true l.invariant.1 (sym t ∙ state_some _ _ (sym f.ensures ∙ c.in-State.is))
 
 pub loop-slices-preserved : goal.loop-slices-preserved
 loop-slices-preserved c =
@@ -62,7 +62,7 @@ loop-slices-preserved c =
     let f = c.length_seed-found in
     let e : j.closing ≡ (a.sought.closing || ltb l.slices (length a.specified.now)) = ⊎_elim (λ v. rw (v.1, v.0.taken)) (λ v. rw (v.1, v.0.left)) j.branch in
     let t = tried a.sought.settings a.masks.now a.sought.stop a.sought.pattern a.table.now a.stops.now a.specified.now a.bits.now c.requires.ready c.requires.slices a.sought.closing l.slices j.closing e in
-    (omega arith, passed_next (machine a.sought.settings a.masks.now) a.sought.stop a.sought.closing (paired a.specified.now a.bits.now) l.slices c.loop-slices-test.true l.invariant.1 (sym t ∙ nothing_none _ (sym f.ensures ∙ c.enum_told-1.given.1)))
+    (omega arith, passed_next (machine a.sought.settings a.masks.now) a.sought.stop a.sought.closing (paired a.specified.now a.bits.now) l.slices c.loop-slices-test.true l.invariant.1 (sym t ∙ nothing_none _ (sym f.ensures ∙ c.in_default.is)))
 
 pub returns : goal.returns
 returns c =

@@ -20,7 +20,7 @@ pub returns-then-not-allowed : goal.returns-then-not-allowed
 returns-then-not-allowed c =
     let a = c.args in
     let x = c.close-allowed in
-    let us = take x.result.free x.new.0 in
+    let us = take x.result.free x.new.vectors in
     sym (ap found_of (seed-none a.sought.settings a.masks.now a.sought.stop a.sought.pattern a.table.now a.stops.now a.specified.now a.bits.now c.requires.ready c.requires.slices a.sought.closing a.space (take a.space.free a.vectors) c.requires.met x.result us x.ensures x.result us (keeps_none _ x.result us) (not-true x.result.some c.if-not-allowed.true)))
 
 pub force-forced-requires : goal.force-forced-requires
@@ -33,8 +33,8 @@ returns-then-not-forced c =
     let a = c.args in
     let x = c.close-allowed in
     let o = c.force-forced in
-    let us = take x.result.free x.new.0 in
-    let vs = take o.result.free o.new.1.1.1.0 in
+    let us = take x.result.free x.new.vectors in
+    let vs = take o.result.free o.new.vectors in
     sym (ap found_of (seed-none a.sought.settings a.masks.now a.sought.stop a.sought.pattern a.table.now a.stops.now a.specified.now a.bits.now c.requires.ready c.requires.slices a.sought.closing a.space (take a.space.free a.vectors) c.requires.met x.result us x.ensures o.result vs o.ensures (not-true o.result.some c.if-not-forced.true)))
 
 pub lowest_clear-requires : goal.lowest_clear-requires
@@ -42,15 +42,15 @@ lowest_clear-requires c =
     let a = c.args in
     let x = c.close-allowed in
     let o = c.force-forced in
-    let us = take x.result.free x.new.0 in
-    let vs = take o.result.free o.new.1.1.1.0 in record { rising = seed_rising a.sought.settings a.masks.now a.sought.stop a.sought.pattern a.table.now a.stops.now a.specified.now a.bits.now c.requires.ready c.requires.slices a.sought.closing a.space (take a.space.free a.vectors) c.requires.met x.result us x.ensures o.result vs o.ensures (not-false o.result.some c.if-not-forced.false); columns_in_bounds = stop-rows a.sought.settings a.masks.now a.sought.stop a.sought.pattern a.table.now a.stops.now (length a.specified.now) c.requires.ready }
+    let us = take x.result.free x.new.vectors in
+    let vs = take o.result.free o.new.vectors in record { rising = seed_rising a.sought.settings a.masks.now a.sought.stop a.sought.pattern a.table.now a.stops.now a.specified.now a.bits.now c.requires.ready c.requires.slices a.sought.closing a.space (take a.space.free a.vectors) c.requires.met x.result us x.ensures o.result vs o.ensures (not-false o.result.some c.if-not-forced.false); columns_in_bounds = stop-rows a.sought.settings a.masks.now a.sought.stop a.sought.pattern a.table.now a.stops.now (length a.specified.now) c.requires.ready }
 
 pub returns : goal.returns
 returns c =
     let a = c.args in
     let x = c.close-allowed in
     let o = c.force-forced in
-    let us = take x.result.free x.new.0 in
-    let vs = take o.result.free o.new.1.1.1.0 in
+    let us = take x.result.free x.new.vectors in
+    let vs = take o.result.free o.new.vectors in
     c.lowest_clear.ensures
     ∙ seed_lowest a.sought.settings a.masks.now a.sought.stop a.sought.pattern a.table.now a.stops.now a.specified.now a.bits.now c.requires.ready c.requires.slices a.sought.closing a.space (take a.space.free a.vectors) c.requires.met x.result us x.ensures o.result vs o.ensures (not-false o.result.some c.if-not-forced.false)

@@ -32,7 +32,7 @@ meet_row-kept-requires c =
     let a = c.args in let w = row_asked a.chains a.table.now a.specified.now a.bits.now c.requires.slices c.requires.table c.loop-slice.slice c.loop-slice-test.true in record { specified_bound = w.0; chains_in_bounds = w.1 }
 
 pub slice_bounds-force_row-end : goal.slice_bounds-force_row-end
-slice_bounds-force_row-end c = sym (c.meet_row-kept.auto.0 ∙ c.loop-slice.invariant.1)
+slice_bounds-force_row-end c = sym (c.meet_row-kept.auto.vectors ∙ c.loop-slice.invariant.1)
 
 pub force_row-kept-requires : goal.force_row-kept-requires
 force_row-kept-requires c =
@@ -46,8 +46,8 @@ returns-then-not-kept c =
     let m = c.meet_row-kept in
     let o = c.force_row-kept in
     let lt = c.loop-slice-test.true in
-    let q = quiet_next a.chains a.table.now a.pattern a.stops.now a.specified.now a.bits.now c.requires.slices a.cells l.slice l.auto (take l.auto.free l.vectors) m.result m.new.0 o.result o.new.1.1.1.0 lt l.invariant.2 m.ensures o.ensures in
-    quiet-stop a.chains a.table.now a.pattern a.stops.now a.specified.now a.bits.now c.requires.slices a.cells l.slice o.result (take o.result.free o.new.1.1.1.0) lt q (not-true o.result.some c.if-not-kept.true)
+    let q = quiet_next a.chains a.table.now a.pattern a.stops.now a.specified.now a.bits.now c.requires.slices a.cells l.slice l.auto (take l.auto.free l.vectors) m.result m.new.vectors o.result o.new.vectors lt l.invariant.2 m.ensures o.ensures in
+    quiet-stop a.chains a.table.now a.pattern a.stops.now a.specified.now a.bits.now c.requires.slices a.cells l.slice o.result (take o.result.free o.new.vectors) lt q (not-true o.result.some c.if-not-kept.true)
 
 pub overflow_add-slice : goal.overflow_add-slice
 overflow_add-slice c = let t = c.loop-slice-test.true in let g = c.well_formed.1.1.1.1.1.0.0 in search rules
@@ -59,8 +59,8 @@ loop-slice-preserved c =
     let m = c.meet_row-kept in
     let o = c.force_row-kept in
     let lt = c.loop-slice-test.true in
-    let q = quiet_next a.chains a.table.now a.pattern a.stops.now a.specified.now a.bits.now c.requires.slices a.cells l.slice l.auto (take l.auto.free l.vectors) m.result m.new.0 o.result o.new.1.1.1.0 lt l.invariant.2 m.ensures o.ensures in
-    (omega (arith, lt), o.auto.1.1.1.0 ∙ m.auto.0 ∙ l.invariant.1, q)
+    let q = quiet_next a.chains a.table.now a.pattern a.stops.now a.specified.now a.bits.now c.requires.slices a.cells l.slice l.auto (take l.auto.free l.vectors) m.result m.new.vectors o.result o.new.vectors lt l.invariant.2 m.ensures o.ensures in
+    (omega (arith, lt), o.auto.vectors ∙ m.auto.vectors ∙ l.invariant.1, q)
 
 pub returns : goal.returns
 returns c =

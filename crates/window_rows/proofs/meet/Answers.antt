@@ -18,17 +18,17 @@ loop-left-init c =
 pub offset_bounds-row-chain : goal.offset_bounds-row-chain
 offset_bounds-row-chain c =
     let r = c.args.row.now in
-    let h = left_chain (length r) c.loop-left.chain c.loop-left.left c.loop-left.invariant.0 c.loop-left-test.true in
+    let h = left_chain (length r) c.loop-left.chain c.loop-left.false c.loop-left.invariant.0 c.loop-left-test.true in
     search rules
 
 pub bounds-row-chain : goal.bounds-row-chain
 bounds-row-chain c =
-    left_chain (length c.args.row.now) c.loop-left.chain c.loop-left.left c.loop-left.invariant.0 c.loop-left-test.true
+    left_chain (length c.args.row.now) c.loop-left.chain c.loop-left.false c.loop-left.invariant.0 c.loop-left-test.true
 
 pub overflow_add-chain : goal.overflow_add-chain
 overflow_add-chain c =
     let r = c.args.row.now in
-    let h = left_chain (length r) c.loop-left.chain c.loop-left.left c.loop-left.invariant.0 c.loop-left-test.true in
+    let h = left_chain (length r) c.loop-left.chain c.loop-left.false c.loop-left.invariant.0 c.loop-left-test.true in
     search rules
 
 pub loop-left-preserved : goal.loop-left-preserved

@@ -23,14 +23,14 @@ slice_bounds-flipped-end c =
     let a = c.args in
     let w = window_formed a.settings a.masks.now a.stop a.specified.now a.bits.now c.requires in
     let f = c.flip_bits in
-    flipped-room a.settings.invert a.specified.now a.bits.now _ f.new.1.1.1.0 (slices_equal (length a.masks.now) a.specified.now a.bits.now w.slices) f.ensures
+    flipped-room a.settings.invert a.specified.now a.bits.now _ f.new.out (slices_equal (length a.masks.now) a.specified.now a.bits.now w.slices) f.ensures
 
 pub slice_bounds-seed_upright-end : goal.slice_bounds-seed_upright-end
 slice_bounds-seed_upright-end c =
     let a = c.args in
     let w = window_formed a.settings a.masks.now a.stop a.specified.now a.bits.now c.requires in
     let f = c.flip_bits in
-    sym (length-take-le (length a.bits.now) f.new.1.1.1.0 (flipped-room a.settings.invert a.specified.now a.bits.now _ f.new.1.1.1.0 (slices_equal (length a.masks.now) a.specified.now a.bits.now w.slices) f.ensures))
+    sym (length-take-le (length a.bits.now) f.new.out (flipped-room a.settings.invert a.specified.now a.bits.now _ f.new.out (slices_equal (length a.masks.now) a.specified.now a.bits.now w.slices) f.ensures))
 
 pub seed_upright-requires : goal.seed_upright-requires
 seed_upright-requires c =
@@ -39,7 +39,7 @@ seed_upright-requires c =
     let f = c.flip_bits in
     let u = c.upright-upright in
     let t = c.flip-shown in
-    let front = flipped-front a.settings.invert a.specified.now a.bits.now _ f.new.1.1.1.0 (slices_equal (length a.masks.now) a.specified.now a.bits.now w.slices) f.ensures in
+    let front = flipped-front a.settings.invert a.specified.now a.bits.now _ f.new.out (slices_equal (length a.masks.now) a.specified.now a.bits.now w.slices) f.ensures in
     (rw (u.ensures, t.ensures, front) (window_upright a.settings a.masks.now a.stop a.specified.now a.bits.now c.requires), rw u.ensures refl)
 
 pub returns : goal.returns
@@ -49,5 +49,5 @@ returns c =
     let f = c.flip_bits in
     let u = c.upright-upright in
     let t = c.flip-shown in
-    let front = flipped-front a.settings.invert a.specified.now a.bits.now _ f.new.1.1.1.0 (slices_equal (length a.masks.now) a.specified.now a.bits.now w.slices) f.ensures in
+    let front = flipped-front a.settings.invert a.specified.now a.bits.now _ f.new.out (slices_equal (length a.masks.now) a.specified.now a.bits.now w.slices) f.ensures in
     c.seed_upright.ensures ∙ rw (u.ensures, t.ensures, front) (ap lowest_or7 (sym (seed-upright a.settings a.masks.now a.stop a.specified.now a.bits.now)))

@@ -26,7 +26,7 @@ found_anew-found-requires c =
     let a = c.args in
     let w = window_formed a.settings a.masks.now a.stop a.specified.now a.bits.now c.requires.0 in
     let k = c.fill_stops-pattern in
-    let f = c.fill in record { tables_for = rw (sym (add-one (length a.specified.now))) (tables_filled a.settings a.masks.now a.stop k.result f.new.1.1.1.0 k.new.1.1.1.1.0 _ _ (length a.specified.now + 1) w.register w.chains c.requires.1 w.stop k.ensures.0 f.ensures k.ensures.1); bits_value = w.slices }
+    let f = c.fill in record { tables_for = rw (sym (add-one (length a.specified.now))) (tables_filled a.settings a.masks.now a.stop k.result f.new.table k.new.stops _ _ (length a.specified.now + 1) w.register w.chains c.requires.1 w.stop k.ensures.answer f.ensures k.ensures.buffer); bits_value = w.slices }
 
 pub returns : goal.returns
 returns c = c.answer.ensures _ c.found_anew-found.ensures

@@ -13,19 +13,19 @@ use Rattle.window_tables.proofs.fill_stops.Goals as goal
 pub slice_bounds-chosen-end : goal.slice_bounds-chosen-end
 slice_bounds-chosen-end c =
     let o = c.choose-columns in
-    let n : length o.new.1.1.0 ≡ 64 = o.auto.1.1.0 in
-    omega (arith, o.ensures.0, chosen_few c.args.stop.specified c.args.masks.now, c.requires.0)
+    let n : length o.new.chosen ≡ 64 = o.auto.chosen in
+    omega (arith, o.ensures.answer, chosen_few c.args.stop.specified c.args.masks.now, c.requires.0)
 
 pub slice_bounds-fill-end : goal.slice_bounds-fill-end
 slice_bounds-fill-end c =
     let o = c.choose-columns in
-    let n : length o.new.1.1.0 ≡ 64 = o.auto.1.1.0 in
-    sym (length-take-le o.result o.new.1.1.0 (omega (arith, o.ensures.0, chosen_few c.args.stop.specified c.args.masks.now, c.requires.0)))
+    let n : length o.new.chosen ≡ 64 = o.auto.chosen in
+    sym (length-take-le o.result o.new.chosen (omega (arith, o.ensures.answer, chosen_few c.args.stop.specified c.args.masks.now, c.requires.0)))
 
 pub fill-requires : goal.fill-requires
 fill-requires c =
     let o = c.choose-columns in
-    rw (front-chosen c.args.stop.specified c.args.masks.now o.new.1.1.0 _ o.result o.ensures.0 o.ensures.1)
+    rw (front-chosen c.args.stop.specified c.args.masks.now o.new.chosen _ o.result o.ensures.answer o.ensures.buffer)
     (few_entries c.args.rows c.args.stop.specified c.args.masks.now _ c.requires.1)
 
 pub returns : goal.returns
@@ -34,4 +34,4 @@ returns c =
     let o = c.choose-columns in
     let f = c.fill in
     let m : min 64 (length a.masks.now) ≡ length a.masks.now = omega (arith, c.requires.0) in
-    let parts : ℕ → ℕ → Pattern = λ k b. record { columns = k; bits = b } in record { answer = ap₂ parts o.ensures.0 (c.pack-bits.ensures ∙ ap (packed a.stop.specified a.stop.bits) m); buffer = f.ensures ∙ rw (front-chosen a.stop.specified a.masks.now o.new.1.1.0 _ o.result o.ensures.0 o.ensures.1) }
+    let parts : ℕ → ℕ → Pattern = λ k b. record { columns = k; bits = b } in record { answer = ap₂ parts o.ensures.answer (c.pack-bits.ensures ∙ ap (packed a.stop.specified a.stop.bits) m); buffer = f.ensures ∙ rw (front-chosen a.stop.specified a.masks.now o.new.chosen _ o.result o.ensures.answer o.ensures.buffer) }
