@@ -18,6 +18,7 @@ use Rattle.machine_slices.specs.Slices.{paired}
 use Rattle.machine_slices.proofs.Formed.{slices_length}
 use Rattle.theory_covering.specs.Rules.{segment_rules}
 use Rattle.encoder_gathering.proofs.gather.Goals as goal
+use Rattle.encoder_gathering.proofs.gather.Goals.{then-sought, else-sought}
 
 pub loop-place-init : goal.loop-place-init
 loop-place-init c =
@@ -51,7 +52,7 @@ returns-then-longest-eq0 c =
     let a = c.args in
     let l = c.loop-place in
     let j = c.if-sought in
-    let e : j.closing ≡ (a.sought.closing || ltb c.far-end.result (length a.specified.now)) = ⊎_elim (λ v. rw (v.1, v.0.taken)) (λ v. rw (v.1, v.0.left)) j.branch in
+    let e : j.closing ≡ (a.sought.closing || ltb c.far-end.result (length a.specified.now)) = elim j.branch [ then-sought v ↦ rw (v.closing-is, v.if-sought.true) | else-sought v ↦ rw (v.closing-is, v.if-sought.false) ] in
     let w = part_window a.sought.settings a.masks.now a.sought.stop a.sought.closing a.specified.now a.bits.now c.requires.slices l.place c.far-end.result (omega (arith, c.loop-place-test.true)) (c.far-end.ensures a.sought.stop a.sought.closing) j.closing e c.reach-longest.result c.reach-longest.ensures in let whole = gathering_answer (machine a.sought.settings a.masks.now) (segment_rules a.sought.settings a.sought.stop a.sought.closing) (paired a.specified.now a.bits.now) a.seeds.now a.earlier l.place l.count l.seeds (w.end ∙ omega (arith, c.if-longest-eq0.true)) l.invariant in record { answer = whole.0; buffer = whole.1 }
 
 pub bounds-seeds-count : goal.bounds-seeds-count
@@ -65,7 +66,7 @@ overflow_add-place c =
     let a = c.args in
     let l = c.loop-place in
     let j = c.if-sought in
-    let e : j.closing ≡ (a.sought.closing || ltb c.far-end.result (length a.specified.now)) = ⊎_elim (λ v. rw (v.1, v.0.taken)) (λ v. rw (v.1, v.0.left)) j.branch in
+    let e : j.closing ≡ (a.sought.closing || ltb c.far-end.result (length a.specified.now)) = elim j.branch [ then-sought v ↦ rw (v.closing-is, v.if-sought.true) | else-sought v ↦ rw (v.closing-is, v.if-sought.false) ] in
     let w = part_window a.sought.settings a.masks.now a.sought.stop a.sought.closing a.specified.now a.bits.now c.requires.slices l.place c.far-end.result (omega (arith, c.loop-place-test.true)) (c.far-end.ensures a.sought.stop a.sought.closing) j.closing e c.reach-longest.result c.reach-longest.ensures in
     let k = w.within in
     let n = slices_length (length a.masks.now) a.specified.now a.bits.now c.requires.slices in
@@ -83,7 +84,7 @@ loop-place-preserved c =
     let l = c.loop-place in
     let r = c.reach-longest in
     let j = c.if-sought in
-    let e : j.closing ≡ (a.sought.closing || ltb c.far-end.result (length a.specified.now)) = ⊎_elim (λ v. rw (v.1, v.0.taken)) (λ v. rw (v.1, v.0.left)) j.branch in
+    let e : j.closing ≡ (a.sought.closing || ltb c.far-end.result (length a.specified.now)) = elim j.branch [ then-sought v ↦ rw (v.closing-is, v.if-sought.true) | else-sought v ↦ rw (v.closing-is, v.if-sought.false) ] in
     let w = part_window a.sought.settings a.masks.now a.sought.stop a.sought.closing a.specified.now a.bits.now c.requires.slices l.place c.far-end.result (omega (arith, c.loop-place-test.true)) (c.far-end.ensures a.sought.stop a.sought.closing) j.closing e r.result r.ensures in
     let k : 0 < r.result.slices = omega (arith, c.if-longest-eq0.false) in
     let n = slices_length (length a.masks.now) a.specified.now a.bits.now c.requires.slices in

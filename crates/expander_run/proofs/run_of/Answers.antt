@@ -7,6 +7,7 @@ use lib.Dec.{leb}
 use Rattle.refusal_causes.specs.declared.Written.TheVariants.{Count}
 use Rattle.expander_run.proofs.Looking.{counted_by, told-beyond, told_at_stop, told_open, told-closed, told_endless}
 use Rattle.expander_run.proofs.run_of.Goals as goal
+use Rattle.expander_run.proofs.run_of.Goals.{then-last, else-last}
 
 pub returns-then-beyond : goal.returns-then-beyond
 returns-then-beyond c =
@@ -17,7 +18,7 @@ pub returns-then-length-eq0 : goal.returns-then-length-eq0
 returns-then-length-eq0 c =
     let a = c.args in
     let j = c.if-last in
-    let e : j.unclosed ≡ (a.last && leb a.left a.settings.limit) = ⊎_elim (λ v. rw (v.2, v.0.taken)) (λ v. rw (v.1, v.0.left)) j.branch in
+    let e : j.unclosed ≡ (a.last && leb a.left a.settings.limit) = elim j.branch [ then-last v ↦ rw (v.unclosed-is, v.if-last.true) | else-last v ↦ rw (v.unclosed-is, v.if-last.false) ] in
     let state = sym c.beyond.ensures ∙ c.if-beyond.false in
     let t = c.before_stop-length in
     let n = counted_by a.settings a.masks.now a.stop a.place a.last a.left a.seed t.result _ j.unclosed t.ensures c.looked_at-looked.ensures e in
@@ -27,7 +28,7 @@ pub returns-then-unclosed : goal.returns-then-unclosed
 returns-then-unclosed c =
     let a = c.args in
     let j = c.if-last in
-    let e : j.unclosed ≡ (a.last && leb a.left a.settings.limit) = ⊎_elim (λ v. rw (v.2, v.0.taken)) (λ v. rw (v.1, v.0.left)) j.branch in
+    let e : j.unclosed ≡ (a.last && leb a.left a.settings.limit) = elim j.branch [ then-last v ↦ rw (v.unclosed-is, v.if-last.true) | else-last v ↦ rw (v.unclosed-is, v.if-last.false) ] in
     let state = sym c.beyond.ensures ∙ c.if-beyond.false in
     let t = c.before_stop-length in
     let n = counted_by a.settings a.masks.now a.stop a.place a.last a.left a.seed t.result _ j.unclosed t.ensures c.looked_at-looked.ensures e in
@@ -37,7 +38,7 @@ pub returns-then-settings-length : goal.returns-then-settings-length
 returns-then-settings-length c =
     let a = c.args in
     let j = c.if-last in
-    let e : j.unclosed ≡ (a.last && leb a.left a.settings.limit) = ⊎_elim (λ v. rw (v.2, v.0.taken)) (λ v. rw (v.1, v.0.left)) j.branch in
+    let e : j.unclosed ≡ (a.last && leb a.left a.settings.limit) = elim j.branch [ then-last v ↦ rw (v.unclosed-is, v.if-last.true) | else-last v ↦ rw (v.unclosed-is, v.if-last.false) ] in
     let state = sym c.beyond.ensures ∙ c.if-beyond.false in
     let t = c.before_stop-length in
     let n = counted_by a.settings a.masks.now a.stop a.place a.last a.left a.seed t.result _ j.unclosed t.ensures c.looked_at-looked.ensures e in
@@ -47,7 +48,7 @@ pub returns : goal.returns
 returns c =
     let a = c.args in
     let j = c.if-last in
-    let e : j.unclosed ≡ (a.last && leb a.left a.settings.limit) = ⊎_elim (λ v. rw (v.2, v.0.taken)) (λ v. rw (v.1, v.0.left)) j.branch in
+    let e : j.unclosed ≡ (a.last && leb a.left a.settings.limit) = elim j.branch [ then-last v ↦ rw (v.unclosed-is, v.if-last.true) | else-last v ↦ rw (v.unclosed-is, v.if-last.false) ] in
     let state = sym c.beyond.ensures ∙ c.if-beyond.false in
     let t = c.before_stop-length in
     let n = counted_by a.settings a.masks.now a.stop a.place a.last a.left a.seed t.result _ j.unclosed t.ensures c.looked_at-looked.ensures e in

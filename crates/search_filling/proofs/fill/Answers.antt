@@ -8,6 +8,7 @@ use lib.ListN.{length, take}
 use Rattle.search_rows.proofs.Reading.{row_fits}
 use Rattle.search_filling.proofs.Words.{filled_none, filled_row, filled_same}
 use Rattle.search_filling.proofs.fill.Goals as goal
+use Rattle.search_filling.proofs.fill.Goals.{then-fill_row, else-fill_row}
 
 pub loop-row-init : goal.loop-row-init
 loop-row-init c =
@@ -43,12 +44,12 @@ loop-row-preserved c =
     let k : length o.new.words ≡ length l.words = o.auto.words in
     let room : l.count * (a.pattern.columns * 2) + a.pattern.columns * 2 ≤ length l.words = omega (arith, l.invariant.2) in (
       omega arith,
-      ⊎_elim (λ v. omega (arith, v.1)) (λ v. omega (arith, v.1)) c.if-fill_row.branch,
+      elim c.if-fill_row.branch [ then-fill_row v ↦ omega (arith, v.count-is) | else-fill_row v ↦ omega (arith, v.count-is) ],
       k ∙ l.invariant.2,
-      ⊎_elim
-          (λ v. rw v.1 (filled_row a.pattern a.table.now a.rows a.lowest (take a.free a.vectors.now) l.words o.new.words l.count _ refl k o.ensures.before l.invariant.3 l.row (omega arith) room (o.ensures.words v.0.taken)))
-          (λ v. rw v.1 (filled_same a.pattern a.table.now a.rows a.lowest (take a.free a.vectors.now) l.words o.new.words l.count _ refl k o.ensures.before l.invariant.3))
-          c.if-fill_row.branch,
+      elim c.if-fill_row.branch [
+          | then-fill_row v ↦ rw v.count-is (filled_row a.pattern a.table.now a.rows a.lowest (take a.free a.vectors.now) l.words o.new.words l.count _ refl k o.ensures.before l.invariant.3 l.row (omega arith) room (o.ensures.words v.if-fill_row.true))
+          | else-fill_row v ↦ rw v.count-is (filled_same a.pattern a.table.now a.rows a.lowest (take a.free a.vectors.now) l.words o.new.words l.count _ refl k o.ensures.before l.invariant.3)
+      ],
     )
 
 pub shape_of-words : goal.shape_of-words

@@ -7,6 +7,7 @@ use lib.ListN.{length, take, length-take}
 use lib.Seq.{get_or-take}
 use Rattle.search_members.proofs.Numbers.{number-take, number_skip, number_done}
 use Rattle.search_members.proofs.member.Goals as goal
+use Rattle.search_members.proofs.member.Goals.{then-left-eq1, else-left-eq1}
 
 pub loop-place-init : goal.loop-place-init
 loop-place-init c = (omega arith, refl)
@@ -19,10 +20,10 @@ loop-place-preserved c =
     let h : l.place < length (take a.free a.vectors.now) = omega arith in
     let g = get_or-take a.free a.vectors.now l.place 0 (omega arith) in (
       omega arith,
-      l.invariant.1 ∙ ⊎_elim
-          (λ w. rw (w.2, sym g) (number-take (take a.free a.vectors.now) l.state l.left l.place h w.0.taken))
-          (λ w. rw w.1 (number_skip (take a.free a.vectors.now) l.state l.left l.place h w.0.left))
-          c.if-left-eq1.branch,
+      l.invariant.1 ∙ elim c.if-left-eq1.branch [
+          | then-left-eq1 w ↦ rw (w.state-is, sym g) (number-take (take a.free a.vectors.now) l.state l.left l.place h w.if-left-eq1.true)
+          | else-left-eq1 w ↦ rw w.state-is (number_skip (take a.free a.vectors.now) l.state l.left l.place h w.if-left-eq1.false)
+      ],
     )
 
 pub returns : goal.returns

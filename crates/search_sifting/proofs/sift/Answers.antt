@@ -10,6 +10,7 @@ use Rattle.words_gf2.proofs.Digits.{one_shifted}
 use Rattle.search_excluding.proofs.Excluding.{dead_clear}
 use Rattle.search_sifting.proofs.Sifting.{group_first, group_passed, group_dead, found_none, found_number, found_before, groups_few, groups_whole}
 use Rattle.search_sifting.proofs.sift.Goals as goal
+use Rattle.search_sifting.proofs.sift.Goals.{then-dead, else-dead}
 
 pub overflow_shl-groups : goal.overflow_shl-groups
 overflow_shl-groups c = omega (arith, c.requires.leaf.0.few)
@@ -69,11 +70,11 @@ loop-group-preserved c =
     let h : l.group < 64 = omega (arith, c.loop-group-test.true) in
     let d = c.dead_lanes-dead in (
       omega arith,
-      ⊎_elim
-          (λ v. group_passed a.pattern a.table.now a.rows a.lowest (take a.free a.vectors.now) l.group v.4.result (omega (arith, v.5.left)) l.invariant.1 v.4.ensures)
-          (λ v. group_dead a.pattern a.table.now a.rows a.lowest (take a.free a.vectors.now) l.group d.result (omega (arith, v.left)) l.invariant.1
-          (dead_clear a.pattern a.table.now a.rows a.lowest (take a.free a.vectors.now) a.words.now a.count l.group d.result h c.requires.filled d.ensures))
-          c.if-dead.branch,
+      elim c.if-dead.branch [
+          | then-dead v ↦ group_passed a.pattern a.table.now a.rows a.lowest (take a.free a.vectors.now) l.group v.clear_lane.result (omega arith) l.invariant.1 v.clear_lane.ensures
+          | else-dead v ↦ group_dead a.pattern a.table.now a.rows a.lowest (take a.free a.vectors.now) l.group d.result (omega arith) l.invariant.1
+          (dead_clear a.pattern a.table.now a.rows a.lowest (take a.free a.vectors.now) a.words.now a.count l.group d.result h c.requires.filled d.ensures)
+      ],
     )
 
 pub returns : goal.returns

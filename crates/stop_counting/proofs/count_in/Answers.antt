@@ -7,6 +7,7 @@ use lib.ListN.{length}
 use borrow.Author.Rules.{rules}
 use Rattle.stop_counting.proofs.Counting.{in_hit, in_miss, in_end}
 use Rattle.stop_counting.proofs.count_in.Goals as goal
+use Rattle.stop_counting.proofs.count_in.Goals.{then-is_in, else-is_in}
 
 pub loop-i-init : goal.loop-i-init
 loop-i-init c = (c.lesser-slices.ensures, search rules, search rules, omega arith)
@@ -17,10 +18,10 @@ loop-i-preserved c =
     let a = c.args in
     let e = c.is_in.ensures in
     let inside : l.i < min (length a.specified.now) (length a.bits.now) = omega arith in
-    ⊎_elim
-    (λ w. let r = in_hit a.stop a.specified.now a.bits.now l.i inside (sym e ∙ w.0.taken) in (l.invariant.0, omega arith, omega arith, omega arith))
-    (λ w. let r = in_miss a.stop a.specified.now a.bits.now l.i inside (sym e ∙ w.0.left) in (l.invariant.0, omega arith, omega arith, omega arith))
-    c.if-is_in.branch
+    elim c.if-is_in.branch [
+    | then-is_in w ↦ let r = in_hit a.stop a.specified.now a.bits.now l.i inside (sym e ∙ w.if-is_in.true) in (l.invariant.0, omega arith, omega arith, omega arith)
+    | else-is_in w ↦ let r = in_miss a.stop a.specified.now a.bits.now l.i inside (sym e ∙ w.if-is_in.false) in (l.invariant.0, omega arith, omega arith, omega arith)
+    ]
 
 pub returns : goal.returns
 returns c =

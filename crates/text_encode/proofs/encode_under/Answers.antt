@@ -10,7 +10,7 @@ use Rattle.text_encode.proofs.encode_under.Goals as goal
 
 pub slice_bounds-encode_said-end : goal.slice_bounds-encode_said-end
 slice_bounds-encode_said-end c =
-    few_long 64 (masks_of (entries_in c.args.entries.now)) c.requires.1.masks _ c.numbers.ensures.count _ c.numbers.ensures.list
+    few_long 64 (masks_of (entries_in c.args.entries.now)) c.requires.1.masks _ c.numbers-chains.ensures.count _ c.numbers-chains.ensures.list
 
 pub slice_bounds-encode_said-end-2 : goal.slice_bounds-encode_said-end-2
 slice_bounds-encode_said-end-2 c =
@@ -24,7 +24,7 @@ slice_bounds-encode_said-end-3 c =
 
 pub encode_said-requires : goal.encode_said-requires
 encode_said-requires c =
-    rw (few_front 64 (masks_of (entries_in c.args.entries.now)) c.requires.1.masks _ c.numbers.ensures.count _ c.numbers.ensures.list) (c.requires.0, c.requires.1.masks)
+    rw (few_front 64 (masks_of (entries_in c.args.entries.now)) c.requires.1.masks _ c.numbers-chains.ensures.count _ c.numbers-chains.ensures.list) (c.requires.0, c.requires.1.masks)
 
 pub returns : goal.returns
 unfolding reply_under
@@ -33,7 +33,7 @@ returns c =
     let p = parts_long key.Slice es in let w = rw (
       ← c.settings.ensures,
       ← c.number-depth.ensures,
-      ← (few_front 64 (masks_of es) c.requires.1.masks _ c.numbers.ensures.count _ c.numbers.ensures.list),
+      ← (few_front 64 (masks_of es) c.requires.1.masks _ c.numbers-chains.ensures.count _ c.numbers-chains.ensures.list),
       ← (few_front 2048 (specified_of es) c.requires.1.slices _ c.numbers-slices.ensures.count _ c.numbers-slices.ensures.list),
       ← (few_front 2048 (bits_of es) (omega (arith, p, c.requires.1.slices)) _ (c.numbers-slices.ensures.count ∙ p) _ c.numbers.ensures.list),
     )

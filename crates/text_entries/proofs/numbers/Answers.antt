@@ -5,6 +5,7 @@ use Prim.Native.Nat.{◌-◌}
 use native.Mathlib.Omega.{arith}
 use Rattle.text_entries.proofs.Picking.{left_long, left_here, left_other, left_end, offset-most}
 use Rattle.text_entries.proofs.numbers.Goals as goal
+use Rattle.text_entries.proofs.numbers.Goals.{then-entries-i, else-entries-i}
 
 pub overflow_add-i : goal.overflow_add-i
 overflow_add-i c = rw c.offset.ensures (omega (arith, offset-most c.args.part))
@@ -22,10 +23,10 @@ pub loop-i-preserved : goal.loop-i-preserved
 loop-i-preserved c =
     let w = c.loop-i.invariant in
     let h = c.loop-i-test.true in
-    ⊎_elim
-    (λ v. rw (v.7, v.8, v.4.ensures, v.2.ensures) (left_here _ _ _ _ _ _ _ w h (v.0.taken ∙ c.rank.ensures)))
-    (λ v. rw (v.1, v.2) (left_other _ _ _ _ _ _ _ w h (λ q. v.0.left (q ∙ sym c.rank.ensures))))
-    c.if-entries-i.branch
+    elim c.if-entries-i.branch [
+    | then-entries-i v ↦ rw (v.list-is, v.count-is, v.put.ensures, v.offset.ensures) (left_here _ _ _ _ _ _ _ w h (v.if-entries-i.true ∙ c.rank.ensures))
+    | else-entries-i v ↦ rw (v.list-is, v.count-is) (left_other _ _ _ _ _ _ _ w h (λ q. v.if-entries-i.false (q ∙ sym c.rank.ensures)))
+    ]
 
 pub shape_of-list : goal.shape_of-list
 shape_of-list c = left_long _ _ _ _ _ _ _ c.loop-i.invariant

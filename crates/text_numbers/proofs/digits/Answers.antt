@@ -7,13 +7,11 @@ use native.Mathlib.Omega.{arith}
 use Rattle.text_numbers.specs.Numbers.{digits}
 use Rattle.text_numbers.proofs.Numerals.{digits_go, digits-none, digits_end, below_next, digits-fit}
 use Rattle.text_numbers.proofs.digits.Goals as goal
+use Rattle.text_numbers.proofs.digits.Goals.{Else-base-d}
 
 -- What is stored fits a word.
-fits : (c : tie.Else1 invariant-loop decreases-loop) → let at = c.before.before.before.before in at.loop.v * at.before.before.args.base + c.before.worth.result < 2 ^ 64
-fits c =
-    let at = c.before.before.before.before in
-    let pre = at.before.before.requires in
-    digits-fit _ _ _ at.loop.i _ pre.0 pre.1 (omega arith) at.loop.invariant.1 c.if1.false
+fits : (c : Else-base-d) → c.loop-i.v * c.args.base + c.worth-d.result < 2 ^ 64
+fits c = digits-fit _ _ _ c.loop-i.i _ c.requires.0 c.requires.1 (omega arith) c.loop-i.invariant.1 c.if-base-d.false
 
 pub loop-i-init : goal.loop-i-init
 loop-i-init c = (omega arith, rw pow-zero (omega arith), refl)

@@ -6,7 +6,7 @@ use Rattle.text_write_bytes.proofs.Storing.{Left}
 use Rattle.text_write_characters.proofs.put_characters.Given as goal
 
 abbrev pub invariant-loop-i : goal.invariant-loop-i
-invariant-loop-i l = (l.i ≤ l.chains) × Left l.initial.out l.at (characters l.chains (record { l.specified = l.initial.specified; l.bits = l.initial.bits })) l.out (l.at + l.i) (characters (l.chains - l.i) (record { l.specified = l.specified; l.bits = l.bits }))
+invariant-loop-i l = (l.i ≤ l.chains) × Left l.initial.out l.at (characters l.chains (record { specified = l.initial.specified; bits = l.initial.bits })) l.out (l.at + l.i) (characters (l.chains - l.i) (record { specified = l.specified; bits = l.bits }))
 
 abbrev pub decreases-loop-i : goal.decreases-loop-i
 decreases-loop-i l = l.chains - l.i

@@ -17,4 +17,4 @@ put-requires c = let a = c.args in omega (arith, characters-length a.chains a.sl
 
 pub returns : goal.returns
 unfolding slice_line
-returns c = join c.put.ensures (join c.put_characters-end.ensures c.put.ensures)
+returns c = join c.put-value.ensures (join c.put_characters-end.ensures c.put.ensures)

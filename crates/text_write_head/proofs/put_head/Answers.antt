@@ -18,4 +18,4 @@ put_number_lines-requires c = let a = c.args in (omega arith, omega arith, omega
 
 pub returns : goal.returns
 unfolding head_text name row_at rows
-returns c = join c.put_chains-a.ensures (join c.put_number_lines.ensures c.put_number_lines.ensures)
+returns c = join c.put_chains-a.ensures (join c.put_number_lines-b.ensures c.put_number_lines.ensures)

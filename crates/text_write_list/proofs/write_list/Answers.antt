@@ -14,4 +14,4 @@ pub returns-then-out-needed : goal.returns-then-out-needed
 returns-then-out-needed c = let w = filled_short c.put_list-needed.ensures _ c.if-out-needed.true in record { answer = w.0; buffer = w.1 }
 
 pub returns : goal.returns
-returns c = let w = filled c.put_list.ensures _ c.if-out-needed.false c.put_list.ensures in record { answer = w.0; buffer = w.1 }
+returns c = let w = filled c.put_list-needed.ensures _ c.if-out-needed.false c.put_list.ensures in record { answer = w.0; buffer = w.1 }

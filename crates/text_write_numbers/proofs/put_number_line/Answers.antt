@@ -19,4 +19,4 @@ put-requires c = let a = c.args in omega (arith, line_parts a.base a.key.now a.n
 
 pub returns : goal.returns
 unfolding number_line
-returns c = join c.put.ensures (join c.put_number-end.ensures c.put.ensures)
+returns c = join c.put-value.ensures (join c.put_number-end.ensures c.put.ensures)

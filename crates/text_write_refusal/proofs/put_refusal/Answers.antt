@@ -14,4 +14,4 @@ put_number_line-requires c = (omega arith, omega arith, omega (arith, refusal_pa
 
 pub returns : goal.returns
 unfolding refused_text
-returns c = join c.put_number_line.ensures c.put_number_line.ensures
+returns c = join c.put_number_line-a.ensures c.put_number_line.ensures

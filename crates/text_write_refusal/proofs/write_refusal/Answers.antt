@@ -12,4 +12,4 @@ pub returns-then-out-needed : goal.returns-then-out-needed
 returns-then-out-needed c = let w = filled_short c.put_refusal-needed.ensures _ c.if-out-needed.true in record { answer = w.0; buffer = w.1 }
 
 pub returns : goal.returns
-returns c = let w = filled c.put_refusal.ensures _ c.if-out-needed.false c.put_refusal.ensures in record { answer = w.0; buffer = w.1 }
+returns c = let w = filled c.put_refusal-needed.ensures _ c.if-out-needed.false c.put_refusal.ensures in record { answer = w.0; buffer = w.1 }

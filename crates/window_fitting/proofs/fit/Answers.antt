@@ -28,11 +28,11 @@ loop-slice-preserved c =
     let m = c.meet_row-kept in (
       omega (arith, c.loop-slice-test.true),
       m.auto.vectors ∙ l.invariant.1,
-      fitted_next a.chains a.table.now a.specified.now a.bits.now c.requires.bits_value a.space (take a.space.free a.vectors.now) l.slice l.auto _ m.result _ c.loop-slice-test.true l.invariant.2 m.ensures,
+      fitted_next a.chains a.table.now a.specified.now a.bits.now c.requires.bits_value a.space (take a.space.free a.vectors.now) l.slice l.kept _ m.result _ c.loop-slice-test.true l.invariant.2 m.ensures,
     )
 
 pub returns : goal.returns
 returns c =
     let a = c.args in
     let l = c.loop-slice in
-    fitted_end a.chains a.table.now a.specified.now a.bits.now c.requires.bits_value a.space (take a.space.free a.vectors.now) l.slice l.auto _ (omega arith) l.invariant.2
+    fitted_end a.chains a.table.now a.specified.now a.bits.now c.requires.bits_value a.space (take a.space.free a.vectors.now) l.slice l.kept _ (omega arith) l.invariant.2

@@ -12,6 +12,7 @@ use Rattle.window_rows.specs.Narrowing.{all_states, units_of}
 use Rattle.window_rows.proofs.Fitting.{row_asked, fitted_next}
 use Rattle.window_growing.proofs.Growing.{growing_start, growing_next, growing_beyond, grown_stop, grown_end}
 use Rattle.window_growing.proofs.grow.Goals as goal
+use Rattle.window_growing.proofs.grow.Goals.{then-slice-places, else-slice-places}
 
 pub loop-slice-init : goal.loop-slice-init
 loop-slice-init c =
@@ -36,8 +37,8 @@ returns-then-not-kept c =
     let l = c.loop-slice in
     let m = c.meet_row-kept in
     let w = paired a.specified.now a.bits.now in
-    let f = fitted_next a.chains a.table.now a.specified.now a.bits.now c.requires.slices (all_states a.cells) (units_of a.cells) l.slice l.auto (take l.auto.free l.vectors) m.result (take m.result.free m.new.vectors) c.loop-slice-test.true l.invariant.3.fitted m.ensures in
-    grown_stop a.chains a.table.now a.specified.now a.bits.now c.requires.slices a.cells c.requires.space (length a.spaces.now) l.slice l.auto (take l.auto.free l.vectors) l.spaces m.result (take m.result.free m.new.vectors) c.loop-slice-test.true l.invariant.3 f (not-true m.result.some c.if-not-kept.true)
+    let f = fitted_next a.chains a.table.now a.specified.now a.bits.now c.requires.slices (all_states a.cells) (units_of a.cells) l.slice l.kept (take l.kept.free l.vectors) m.result (take m.result.free m.new.vectors) c.loop-slice-test.true l.invariant.3.fitted m.ensures in
+    grown_stop a.chains a.table.now a.specified.now a.bits.now c.requires.slices a.cells c.requires.space (length a.spaces.now) l.slice l.kept (take l.kept.free l.vectors) l.spaces m.result (take m.result.free m.new.vectors) c.loop-slice-test.true l.invariant.3 f (not-true m.result.some c.if-not-kept.true)
 
 pub slice_bounds-store-end : goal.slice_bounds-store-end
 slice_bounds-store-end c = sym (c.meet_row-kept.auto.vectors ∙ c.loop-slice.invariant.1)
@@ -51,15 +52,15 @@ loop-slice-preserved c =
     let l = c.loop-slice in
     let m = c.meet_row-kept in
     let w = paired a.specified.now a.bits.now in
-    let f = fitted_next a.chains a.table.now a.specified.now a.bits.now c.requires.slices (all_states a.cells) (units_of a.cells) l.slice l.auto (take l.auto.free l.vectors) m.result (take m.result.free m.new.vectors) c.loop-slice-test.true l.invariant.3.fitted m.ensures in
-    let e = not-false m.result.some c.if-not-kept.false in (
+    let f = fitted_next a.chains a.table.now a.specified.now a.bits.now c.requires.slices (all_states a.cells) (units_of a.cells) l.slice l.kept (take l.kept.free l.vectors) m.result (take m.result.free m.new.vectors) c.loop-slice-test.true l.invariant.3.fitted m.ensures in
+    let e = c.if-not-kept.false in (
       omega arith,
       m.auto.vectors ∙ l.invariant.1,
       l.invariant.2,
-      ⊎_elim
-          (λ v. rw v.6 (growing_next a.chains a.table.now w a.cells (length a.spaces.now) l.slice l.auto (take l.auto.free l.vectors) l.spaces l.invariant.3 m.result (take m.result.free m.new.vectors) f e v.3.last.0 v.3.kept.0 v.3.ensures.0 v.3.ensures.1))
-          (λ v. rw v.1 (growing_beyond a.chains a.table.now w a.cells (length a.spaces.now) l.slice l.auto (take l.auto.free l.vectors) l.spaces l.invariant.3 m.result (take m.result.free m.new.vectors) f e (omega (arith, v.0.left))))
-          c.if-slice-places.branch,
+      elim c.if-slice-places.branch [
+          | then-slice-places v ↦ rw v.spaces-is (growing_next a.chains a.table.now w a.cells (length a.spaces.now) l.slice l.kept (take l.kept.free l.vectors) l.spaces l.invariant.3 m.result (take m.result.free m.new.vectors) f e v.store.new.spaces v.store.auto.spaces v.store.ensures.0 v.store.ensures.1)
+          | else-slice-places v ↦ rw v.spaces-is (growing_beyond a.chains a.table.now w a.cells (length a.spaces.now) l.slice l.kept (take l.kept.free l.vectors) l.spaces l.invariant.3 m.result (take m.result.free m.new.vectors) f e (omega (arith, v.if-slice-places.false)))
+      ],
     )
 
 pub shape_of-spaces : goal.shape_of-spaces
@@ -69,4 +70,4 @@ pub returns : goal.returns
 returns c =
     let a = c.args in
     let l = c.loop-slice in
-    grown_end a.chains a.table.now a.specified.now a.bits.now c.requires.slices a.cells c.requires.space (length a.spaces.now) l.slice l.auto (take l.auto.free l.vectors) l.spaces l.invariant.0 (omega arith) l.invariant.3
+    grown_end a.chains a.table.now a.specified.now a.bits.now c.requires.slices a.cells c.requires.space (length a.spaces.now) l.slice l.kept (take l.kept.free l.vectors) l.spaces l.invariant.0 (omega arith) l.invariant.3

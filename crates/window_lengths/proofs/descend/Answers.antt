@@ -16,6 +16,7 @@ use Rattle.machine_settings.specs.Machine.{machine}
 use Rattle.machine_slices.specs.Slices.{paired}
 use Rattle.window_lengths.proofs.Reaching.{passed_start, passed_next, tried, reach-found, reach-none}
 use Rattle.window_lengths.proofs.descend.Goals as goal
+use Rattle.window_lengths.proofs.descend.Goals.{then-sought, else-sought}
 
 pub loop-slices-init : goal.loop-slices-init
 loop-slices-init c =
@@ -50,7 +51,7 @@ returns-in-State c =
     let l = c.loop-slices in
     let j = c.if-sought in
     let f = c.length_seed-found in
-    let e : j.closing ≡ (a.sought.closing || ltb l.slices (length a.specified.now)) = ⊎_elim (λ v. rw (v.1, v.0.taken)) (λ v. rw (v.1, v.0.left)) j.branch in
+    let e : j.closing ≡ (a.sought.closing || ltb l.slices (length a.specified.now)) = elim j.branch [ then-sought v ↦ rw (v.closing-is, v.if-sought.true) | else-sought v ↦ rw (v.closing-is, v.if-sought.false) ] in
     let t = tried a.sought.settings a.masks.now a.sought.stop a.sought.pattern a.table.now a.stops.now a.specified.now a.bits.now c.requires.ready c.requires.slices a.sought.closing l.slices j.closing e in
     reach-found (machine a.sought.settings a.masks.now) a.sought.stop a.sought.closing (paired a.specified.now a.bits.now) l.slices _ c.loop-slices-test.true l.invariant.1 (sym t ∙ state_some _ _ (sym f.ensures ∙ c.in-State.is))
 
@@ -60,7 +61,7 @@ loop-slices-preserved c =
     let l = c.loop-slices in
     let j = c.if-sought in
     let f = c.length_seed-found in
-    let e : j.closing ≡ (a.sought.closing || ltb l.slices (length a.specified.now)) = ⊎_elim (λ v. rw (v.1, v.0.taken)) (λ v. rw (v.1, v.0.left)) j.branch in
+    let e : j.closing ≡ (a.sought.closing || ltb l.slices (length a.specified.now)) = elim j.branch [ then-sought v ↦ rw (v.closing-is, v.if-sought.true) | else-sought v ↦ rw (v.closing-is, v.if-sought.false) ] in
     let t = tried a.sought.settings a.masks.now a.sought.stop a.sought.pattern a.table.now a.stops.now a.specified.now a.bits.now c.requires.ready c.requires.slices a.sought.closing l.slices j.closing e in
     (omega arith, passed_next (machine a.sought.settings a.masks.now) a.sought.stop a.sought.closing (paired a.specified.now a.bits.now) l.slices c.loop-slices-test.true l.invariant.1 (sym t ∙ nothing_none _ (sym f.ensures ∙ c.in_default.is)))
 

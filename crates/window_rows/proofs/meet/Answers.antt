@@ -9,6 +9,7 @@ use Rattle.search_restrict.proofs.Restricting.{restricted-left}
 use Rattle.window_rows.specs.Meeting.{meets}
 use Rattle.window_rows.proofs.Meeting.{meet-take, meet_skip, meet_end, left_chain, left-half}
 use Rattle.window_rows.proofs.meet.Goals as goal
+use Rattle.window_rows.proofs.meet.Goals.{then-left-eq1, else-left-eq1}
 
 pub loop-left-init : goal.loop-left-init
 loop-left-init c =
@@ -18,17 +19,17 @@ loop-left-init c =
 pub offset_bounds-row-chain : goal.offset_bounds-row-chain
 offset_bounds-row-chain c =
     let r = c.args.row.now in
-    let h = left_chain (length r) c.loop-left.chain c.loop-left.false c.loop-left.invariant.0 c.loop-left-test.true in
+    let h = left_chain (length r) c.loop-left.chain c.loop-left.left c.loop-left.invariant.0 c.loop-left-test.true in
     search rules
 
 pub bounds-row-chain : goal.bounds-row-chain
 bounds-row-chain c =
-    left_chain (length c.args.row.now) c.loop-left.chain c.loop-left.false c.loop-left.invariant.0 c.loop-left-test.true
+    left_chain (length c.args.row.now) c.loop-left.chain c.loop-left.left c.loop-left.invariant.0 c.loop-left-test.true
 
 pub overflow_add-chain : goal.overflow_add-chain
 overflow_add-chain c =
     let r = c.args.row.now in
-    let h = left_chain (length r) c.loop-left.chain c.loop-left.false c.loop-left.invariant.0 c.loop-left-test.true in
+    let h = left_chain (length r) c.loop-left.chain c.loop-left.left c.loop-left.invariant.0 c.loop-left-test.true in
     search rules
 
 pub loop-left-preserved : goal.loop-left-preserved
@@ -40,16 +41,16 @@ loop-left-preserved c =
     let us = take a.space.free a.vectors.now in
     let h = left_chain (length row) l.chain l.left l.invariant.0 c.loop-left-test.true in (
       left-half (length row) l.chain l.left l.invariant.0 h,
-      ⊎_elim (λ w. rw w.6 w.3.kept.0 ∙ l.invariant.1) (λ w. rw w.1 l.invariant.1) c.if-left-eq1.branch,
-      ⊎_elim
-          (λ w.
-          let e = restricted-left (get_or row l.chain 0) (l.values % 2) (take l.auto.free l.vectors) l.auto w.3.result w.3.last.0 _ w.3.ensures.0 w.3.ensures.1 in
-          rw (w.6, w.7, e, w.3.ensures.0) (meet-take row Q a.space us l.chain l.left l.values l.auto (take l.auto.free l.vectors) h w.0.taken l.invariant.2))
-          (λ w. rw (w.1, w.2) (meet_skip row Q a.space us l.chain l.left l.values l.auto (take l.auto.free l.vectors) h w.0.left l.invariant.2))
-          c.if-left-eq1.branch,
+      elim c.if-left-eq1.branch [ then-left-eq1 w ↦ rw w.vectors-is w.restrict.auto.vectors ∙ l.invariant.1 | else-left-eq1 w ↦ rw w.vectors-is l.invariant.1 ],
+      elim c.if-left-eq1.branch [
+          | then-left-eq1 w ↦
+          let e = restricted-left (get_or row l.chain 0) (l.values % 2) (take l.kept.free l.vectors) l.kept w.restrict.result w.restrict.new.vectors _ w.restrict.ensures.answer w.restrict.ensures.buffer in
+          rw (w.vectors-is, w.kept-is, e, w.restrict.ensures.answer) (meet-take row Q a.space us l.chain l.left l.values l.kept (take l.kept.free l.vectors) h w.if-left-eq1.true l.invariant.2)
+          | else-left-eq1 w ↦ rw (w.vectors-is, w.kept-is) (meet_skip row Q a.space us l.chain l.left l.values l.kept (take l.kept.free l.vectors) h w.if-left-eq1.false l.invariant.2)
+      ],
     )
 
 pub returns : goal.returns
 returns c =
     let l = c.loop-left in
-    meet_end c.args.row.now (meets c.args.row.now c.args.specified c.args.bits) c.args.space (take c.args.space.free c.args.vectors.now) l.chain l.left l.values l.auto (take l.auto.free l.vectors) c.loop-left-test.false l.invariant.2
+    meet_end c.args.row.now (meets c.args.row.now c.args.specified c.args.bits) c.args.space (take c.args.space.free c.args.vectors.now) l.chain l.left l.values l.kept (take l.kept.free l.vectors) c.loop-left-test.false l.invariant.2
