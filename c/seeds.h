@@ -1,5 +1,5 @@
 /* The entries of the proved library for C and C++, as crates/seeds/src/lib.rt has them; docs/library.md says what each answers.
- * Words are those of document 01. Link target/staticlib/libseeds.a, which `rt staticlib seeds` makes, on x86-64 Linux.
+ * Words are those of document 01. Link crates/seeds/out/libseeds.a, which `rt lib` in crates/seeds makes, on x86-64 Linux.
  *
  * A list is a pointer and its number of entries. The pointer must not be NULL, also where the number is 0, and must be
  * aligned for its type; it must lead to that many entries, all of which have been written to before, also those of a buffer

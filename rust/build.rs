@@ -1,4 +1,4 @@
-// Links the static library that `rt staticlib seeds` writes below the repository's target folder, or the one in the folder that SEEDS_LIBRARY names.
+// Links the static library that `rt lib` writes in crates/seeds, or the one in the folder that SEEDS_LIBRARY names.
 
 use std::env;
 use std::path::{Path, PathBuf};
@@ -6,7 +6,7 @@ use std::path::{Path, PathBuf};
 /// The folder of the library.
 fn folder() -> PathBuf {
     let here = env::var("CARGO_MANIFEST_DIR").expect("cargo sets the folder of this package");
-    let made = Path::new(&here).with_file_name("target").join("staticlib");
+    let made = Path::new(&here).with_file_name("crates").join("seeds/out");
     env::var("SEEDS_LIBRARY").map_or(made, PathBuf::from)
 }
 
@@ -17,7 +17,7 @@ fn main() {
     println!("cargo::rerun-if-changed={}", library.display());
     if !library.is_file() {
         let missing = library.display();
-        println!("cargo::error={missing} is missing: run rt staticlib seeds");
+        println!("cargo::error={missing} is missing: run rt lib in crates/seeds");
         return;
     }
     println!("cargo::rustc-link-search=native={}", folder.display());

@@ -56,7 +56,7 @@ fn items(source: &str, mark: &str, open: char, close: char) -> Vec<Item> {
 }
 
 fn structs() -> Vec<Item> {
-    let mark = "#[repr(C)] pub struct ";
+    let mark = "#[repr(C)] #[derive(Clone, Copy)] pub struct ";
     ["face_values", "face_numbers", "face_answers"]
         .iter()
         .flat_map(|name| items(&file(&format!("crates/{name}/src/lib.rt")), mark, '{', '}'))
@@ -64,7 +64,7 @@ fn structs() -> Vec<Item> {
 }
 
 fn functions() -> Vec<Item> {
-    let mark = "#[no_mangle] pub extern \"C\" fn ";
+    let mark = "#[unsafe(no_mangle)] pub extern \"C\" fn ";
     items(&file("crates/seeds/src/lib.rt"), mark, '(', ')')
 }
 

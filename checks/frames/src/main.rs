@@ -1,6 +1,6 @@
 // The frames program: the most stack that each entry of the compiled library needs, worked out from its machine code.
 //     frames LIBRARY HEADER
-// LIBRARY is target/staticlib/libseeds.a, HEADER is c/seeds.h, whose SEEDS_STACK must be enough for each entry, and SEEDS_STACK_STOP for seeds_stop.
+// LIBRARY is crates/seeds/out/libseeds.a, HEADER is c/seeds.h, whose SEEDS_STACK must be enough for each entry, and SEEDS_STACK_STOP for seeds_stop.
 // It prints a line for each entry, with the frames that are on the stack at the deepest place, and ends with `N passed, M failed`.
 // A bound for an entry that the library does not have is an error. What it does not understand it refuses: an indirect call, another change of the stack pointer, code that no way leads to, a function that is nowhere.
 

@@ -5,14 +5,18 @@ use crate::folder::Folder;
 use crate::report::Report;
 use crate::shell;
 use std::ffi::OsString;
-use std::path::Path;
+use std::path::{Path, PathBuf};
+
+/// Where the two programs are built.
+const PROGRAMS: [&str; 2] = ["crates/encode/out", "crates/expand/out"];
 
 /// Where the commands look for programs: first among the two that were built.
 fn search_path(root: &Path) -> Result<OsString, String> {
-    let programs = root.join("target/bin");
-    let programs = std::path::absolute(&programs).map_err(|why| why.to_string())?;
+    let programs = PROGRAMS.map(|folder| std::path::absolute(root.join(folder)));
+    let programs: Result<Vec<PathBuf>, std::io::Error> = programs.into_iter().collect();
+    let programs = programs.map_err(|why| why.to_string())?;
     let rest = std::env::var_os("PATH").unwrap_or_default();
-    let all = std::iter::once(programs).chain(std::env::split_paths(&rest));
+    let all = programs.into_iter().chain(std::env::split_paths(&rest));
     std::env::join_paths(all).map_err(|why| why.to_string())
 }
 

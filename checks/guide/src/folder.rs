@@ -1,5 +1,5 @@
 // A fresh folder for the examples of one document. It looks like the repository's root to the commands of the document:
-// copies of the folders that they read, so that nothing they write changes the repository, and a link to what was built.
+// copies of the folders that they read, so that nothing they write changes the repository, and links to what was built.
 
 use std::fs;
 use std::os::unix::fs::symlink;
@@ -9,8 +9,13 @@ use std::sync::atomic::{AtomicUsize, Ordering};
 /// The folders that are copied, where the repository has them.
 const COPIED: [&str; 3] = ["examples", "c", "rust"];
 
-/// The folder that is linked.
-const BUILT: &str = "target";
+/// The folders that are linked, where they are there: what cargo makes, the two programs and the static library.
+const BUILT: [&str; 4] = [
+    "target",
+    "crates/encode/out",
+    "crates/expand/out",
+    "crates/seeds/out",
+];
 
 /// How many folders this process has made.
 static MADE: AtomicUsize = AtomicUsize::new(0);
@@ -39,10 +44,12 @@ impl Folder {
                 copy(&from, &folder.path.join(name)).map_err(said)?;
             }
         }
-        let built = root.join(BUILT);
-        if built.is_dir() {
-            let built = built.canonicalize().map_err(said)?;
-            symlink(built, folder.path.join(BUILT)).map_err(said)?;
+        for name in BUILT {
+            let built = root.join(name);
+            if built.is_dir() {
+                let built = built.canonicalize().map_err(said)?;
+                link(&built, &folder.path.join(name)).map_err(said)?;
+            }
         }
         Ok(folder)
     }
@@ -54,6 +61,12 @@ impl Drop for Folder {
     }
 }
 
+/// Makes a link to what was built, and the folders above it.
+fn link(built: &Path, place: &Path) -> std::io::Result<()> {
+    fs::create_dir_all(place.parent().unwrap_or(place))?;
+    symlink(built, place)
+}
+
 /// Copies a folder with what is in it, but for what was built there.
 fn copy(from: &Path, to: &Path) -> std::io::Result<()> {
     fs::create_dir(to)?;
@@ -62,7 +75,7 @@ fn copy(from: &Path, to: &Path) -> std::io::Result<()> {
         let target = to.join(entry.file_name());
         if !entry.file_type()?.is_dir() {
             fs::copy(entry.path(), target)?;
-        } else if entry.file_name() != BUILT {
+        } else if entry.file_name() != "target" {
             copy(&entry.path(), &target)?;
         }
     }
