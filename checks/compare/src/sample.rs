@@ -74,7 +74,7 @@ fn definitions(root: &Path) -> io::Result<(String, Vec<String>)> {
         for word in words {
             // a name that an earlier crate has too gets the crate's name in front
             let own = if taken.contains(word) {
-                format!("{}-{word}", name.replace('_', "-"))
+                format!("{name}_{word}")
             } else {
                 word.clone()
             };
@@ -87,7 +87,7 @@ fn definitions(root: &Path) -> io::Result<(String, Vec<String>)> {
         }
         let _ = writeln!(
             lines,
-            "use Rattle·{name}.specs.{module}.{{{}}}",
+            "use Rattle.{name}.specs.{module}.{{{}}}",
             list.join(", ")
         );
     }
@@ -95,23 +95,21 @@ fn definitions(root: &Path) -> io::Result<(String, Vec<String>)> {
 }
 
 const HEADER: &str = "-- Answers of the second program on random inputs, against the definitions.
-use mathlib.Core.Path.{_≡_, refl}
-use mathlib.Core.List.{List, [], _∷_}
-use Prim.Native.Nat.{ℕ}
-use lib.Count.{ones, onesIn}
-use Rattle·refusal_causes.specs.declared.Cause.the-variants as cause
-use Rattle·refusal_causes.specs.declared.Written.the-variants as written
-use Rattle·refusal_causes.specs.Outcome.{Outcome}
-use Rattle·machine_settings.specs.Machine.{base, machine}
-use Rattle·machine_slices.specs.declared.TestSlice.{TestSlice}
-use Rattle·encoder_meaning.specs.declared.Encoded.the-variants as encoded-cubes
-use Rattle·encoder_cubes.specs.Cubes.{CubesOutcome}
-use Rattle·stop_slice.specs.declared.Formed.{Formed}
-use Rattle·stop_slice.specs.declared.Formed.the-variants as formed
-use Rattle·theory_covering.specs.declared.Seed.{Seed}
-use Rattle·theory_covering.specs.declared.Seed.the-variants as seed
-use Rattle·text_keys.specs.Bytes.{bytes}
-use Rattle·text_calls.specs.Texts.{encodeText, expandText}
+use Rattle.std.specs.Prelude.{◌≡◌, refl, List, [], ◌∷◌, ℕ}
+use Rattle.std.specs.Int.Count.{ones, ones_in}
+use Rattle.refusal_causes.specs.declared.Cause.TheVariants as cause
+use Rattle.refusal_causes.specs.declared.Written.TheVariants as written
+use Rattle.refusal_causes.specs.Outcome.{Outcome}
+use Rattle.machine_settings.specs.Machine.{base, machine}
+use Rattle.machine_slices.specs.declared.TestSlice.{TestSlice}
+use Rattle.encoder_meaning.specs.declared.Encoded.TheVariants as encoded_cubes
+use Rattle.encoder_cubes.specs.Cubes.{CubesOutcome}
+use Rattle.stop_slice.specs.declared.Formed.{Formed}
+use Rattle.stop_slice.specs.declared.Formed.TheVariants as formed
+use Rattle.theory_covering.specs.declared.Seed.{Seed}
+use Rattle.theory_covering.specs.declared.Seed.TheVariants as seed
+use Rattle.text_keys.specs.Bytes.{bytes}
+use Rattle.text_calls.specs.Texts.{encode_text, expand_text}
 ";
 
 /// Writes the file and answers how many answers it states.
@@ -141,7 +139,7 @@ pub fn write(root: &Path, file: &Path) -> io::Result<usize> {
         ends::lists(&mut random, 250),
     ];
     let (lines, names) = definitions(root)?;
-    let unfolding = format!("ones onesIn {}", names.join(" "));
+    let unfolding = format!("ones ones_in {}", names.join(" "));
     let mut out = format!("{HEADER}{lines}");
     for table in &tables {
         table.print(&unfolding, &mut out);

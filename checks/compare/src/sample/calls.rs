@@ -63,8 +63,8 @@ impl Given {
     pub fn name(self, kind: &str) -> String {
         match self {
             Given::Neither => kind.into(),
-            Given::Limits => format!("limited-{kind}"),
-            Given::Inverts => format!("inverted-{kind}"),
+            Given::Limits => format!("limited_{kind}"),
+            Given::Inverts => format!("inverted_{kind}"),
         }
     }
 }
@@ -98,7 +98,7 @@ pub fn windows(random: &mut Random, given: Given, count: usize) -> Table {
         let lists = format!("{} {}", list(&call.specified), list(&call.bits));
         (
             format!(
-                "windowSeed {} {} {lists}",
+                "window_seed {} {} {lists}",
                 settings(&call),
                 slice(call.stop)
             ),
@@ -119,7 +119,7 @@ pub fn slices(random: &mut Random, count: usize) -> Table {
         call.invert = random.bits(call.masks.len());
         let state = random.bits(call.cells);
         let told = call.slice_of(state).to_string();
-        (format!("machine {} .slice {state}", settings(&call)), told)
+        (format!("(machine {}).slice {state}", settings(&call)), told)
     });
     Table {
         name: "slices".into(),
@@ -140,7 +140,7 @@ pub fn set_row(call: &Call, room: usize) -> (String, String) {
         list(&lent)
     );
     (
-        format!("encodeSet {} {} {lists}", settings(call), slice(call.stop)),
+        format!("encode_set {} {} {lists}", settings(call), slice(call.stop)),
         outcome(answer, &out),
     )
 }
@@ -170,7 +170,7 @@ pub fn cubes(random: &mut Random, given: Given, count: usize) -> Table {
         let depth = call.depth;
         (
             format!(
-                "encodeCubes {} {depth} {set} {}",
+                "encode_cubes {} {depth} {set} {}",
                 settings(&call),
                 list(&lent)
             ),
@@ -209,7 +209,7 @@ pub fn list_row(call: &Call, room: usize) -> (String, String) {
     let answer = call.expand(&call.seeds, &mut out);
     let rest = format!("{} {} {}", call.slices, list(&call.seeds), list(&lent));
     (
-        format!("expandList {} {} {rest}", settings(call), slice(call.stop)),
+        format!("expand_list {} {} {rest}", settings(call), slice(call.stop)),
         outcome(answer, &out),
     )
 }

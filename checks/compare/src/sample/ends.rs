@@ -56,7 +56,7 @@ pub fn sets(random: &mut Random, count: usize) -> Table {
         }
     });
     Table {
-        name: "open-sets".into(),
+        name: "open_sets".into(),
         kind: "Outcome",
         rows: rows.collect(),
     }
@@ -100,7 +100,7 @@ pub fn lists(random: &mut Random, count: usize) -> Table {
         list_row(&call, call.slices + 1 - [0, 1, 1, 2][random.between(0, 3)])
     });
     Table {
-        name: "open-lists".into(),
+        name: "open_lists".into(),
         kind: "Outcome",
         rows: rows.collect(),
     }

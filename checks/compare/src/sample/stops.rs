@@ -39,7 +39,7 @@ pub fn stops(random: &mut Random, count: usize) -> Table {
             Err(refused) => format!("formed.Refused {}", cause(refused)),
         };
         let set = format!("{} {}", list(&call.specified), list(&call.bits));
-        (format!("stopOf {chains} {set}"), told)
+        (format!("stop_of {chains} {set}"), told)
     });
     Table {
         name: "stops".into(),
@@ -86,10 +86,10 @@ pub fn stages(random: &mut Random, count: usize) -> Table {
         let steps = random.between(0, trace.iterations.len() + 1);
         let left = left_after(&trace, call.specified.len(), steps);
         let set = format!("(paired {} {})", list(&call.specified), list(&call.bits));
-        let stage = format!("stage {} {set} {steps}", call.masks.len());
+        let stage = format!("(stage {} {set} {steps})", call.masks.len());
         let told = test_slices(&call, &left);
         (
-            format!("(filter (isIn ({stage} .stop)) {set} ∷ {stage} .left ∷ [])"),
+            format!("(filter (is_in {stage}.stop) {set} ∷ {stage}.left ∷ [])"),
             format!("({told} ∷ {told} ∷ [])"),
         )
     });

@@ -18,8 +18,8 @@ impl Table {
     pub fn print(&self, unfolding: &str, out: &mut String) {
         for (place, rows) in self.rows.chunks(ROWS).enumerate() {
             let (asked, told): (Vec<_>, Vec<_>) = rows.iter().cloned().unzip();
-            let name = format!("{}-{place}", self.name);
-            let _ = writeln!(out, "\n{name} : _≡_ {{A = List ({})}}", self.kind);
+            let name = format!("{}_{place}", self.name);
+            let _ = writeln!(out, "\n{name} : ◌≡◌ {{A = List ({})}}", self.kind);
             let _ = writeln!(out, "    ({} ∷ [])", asked.join("\n    ∷ "));
             let _ = writeln!(out, "    ({} ∷ [])", told.join("\n    ∷ "));
             let _ = writeln!(out, "unfolding {unfolding}\n{name} = refl");
@@ -78,9 +78,9 @@ pub fn outcome(answer: Result<usize, Refused>, buffer: &[u64]) -> String {
 pub fn cubes_outcome(answer: Result<(u64, u64, usize), Refused>, buffer: &[u64]) -> String {
     let answer = match answer {
         Ok((specified, bits, count)) => {
-            format!("encoded-cubes.Seeds {} {count}", slice((specified, bits)))
+            format!("encoded_cubes.Seeds {} {count}", slice((specified, bits)))
         }
-        Err(refused) => format!("encoded-cubes.Refused {}", cause(refused)),
+        Err(refused) => format!("encoded_cubes.Refused {}", cause(refused)),
     };
     let buffer = list(buffer);
     format!("(record {{ answer = {answer}; buffer = {buffer} }})")

@@ -92,18 +92,18 @@ pub fn texts(random: &mut Random, given: Given, count: usize) -> Table {
             thin(random, &mut call);
         }
         let (word, lines) = if place % 2 == 0 {
-            ("encodeText", sheet(random, &call, given))
+            ("encode_text", sheet(random, &call, given))
         } else if place % 4 == 1 {
-            ("expandText", seed_list(random, &call, given))
+            ("expand_text", seed_list(random, &call, given))
         } else {
             let input = sheet(random, &call, given).join("\n") + "\n";
             let printed = second::encode_text(input.as_bytes());
             let printed = String::from_utf8(printed).expect("printed text is ASCII");
-            ("expandText", printed.lines().map(String::from).collect())
+            ("expand_text", printed.lines().map(String::from).collect())
         };
         let input = text(random, lines);
         let printed = match word {
-            "encodeText" => second::encode_text(input.as_bytes()),
+            "encode_text" => second::encode_text(input.as_bytes()),
             _ => second::expand_text(input.as_bytes()),
         };
         let printed = String::from_utf8(printed).expect("printed text is ASCII");
