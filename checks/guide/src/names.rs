@@ -1,5 +1,5 @@
 // What a document cites: paths in backticks, relative links, and names that it says stand in a file ("`a`, `b` and `c` in `path`").
-// Paths are those of the repository that begin with one of its folders. Fenced blocks are left out.
+// Paths are those of the repository that begin with one of its folders, but for what is made in a folder `out`. Fenced blocks are left out.
 
 use crate::blocks::{parts, Part};
 use crate::glob;
@@ -21,8 +21,12 @@ const FOLDERS: [&str; 8] = [
     ".ci/",
 ];
 
+/// The folders of a crate in which its program or library is made.
+const MADE: &str = "out";
+
 fn is_path(code: &str) -> bool {
-    !code.contains(' ') && FOLDERS.iter().any(|folder| code.starts_with(folder))
+    let begins = FOLDERS.iter().any(|folder| code.starts_with(folder));
+    begins && !code.contains(' ') && code.split('/').all(|part| part != MADE)
 }
 
 /// What is cited and can't be found, and how much was looked up.
@@ -132,7 +136,7 @@ mod tests {
     #[test]
     fn right_citations_pass() {
         for right in [
-            "`c/` `c/a.h` `c/*.h` `c/` `other/a.h`",
+            "`c/` `c/a.h` `c/*.h` `c/` `other/a.h` `c/out/b.h` `c/out`",
             "`one-two` and `b::three` in `c/a.h`, `four`",
             "`four` and, besides, `three` in `c/`",
             "[a](c/a.h) [b](a.md) [c](https://four) `c/a.h`",
@@ -144,7 +148,14 @@ mod tests {
 
     #[test]
     fn missing_files_are_found() {
-        for wrong in ["`c/b.h`", "`c/a.h/`", "`c/*.c`", "[a](b.md)", "[a](#head)"] {
+        for wrong in [
+            "`c/b.h`",
+            "`c/a.h/`",
+            "`c/*.c`",
+            "`c/outer/b.h`",
+            "[a](b.md)",
+            "[a](#head)",
+        ] {
             assert!(cited(wrong).is_err(), "{wrong}");
         }
     }
