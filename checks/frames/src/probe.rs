@@ -1,5 +1,6 @@
-// Stack probes: a frame of many pages is taken page by page, each touched, so that a stack that is too small is hit at its guard page.
-//     mov %rsp,R; sub $N,R; P: sub $0x1000,%rsp; movq $0x0,(%rsp); cmp R,%rsp; jne P
+// Stack probes: a frame of many pages is taken step by step, each step a page or less and touched, so that a stack that is too small is hit
+// at its guard page. The compiler's step S is 0xc00 or 0x1000.
+//     mov %rsp,R; sub $N,R; P: sub $S,%rsp; movq $0x0,(%rsp); cmp R,%rsp; jne P
 
 use crate::effect::constant;
 use crate::instruction::{hex, Instruction};
@@ -7,6 +8,7 @@ use crate::instruction::{hex, Instruction};
 /// How many instructions a probe has.
 pub const LENGTH: usize = 6;
 
+/// The bytes of a page, which a step may not pass.
 const PAGE: i64 = 0x1000;
 
 /// The bytes that a probe takes which begins with the first of these instructions.
@@ -19,16 +21,18 @@ pub fn taken(from: &[Instruction]) -> Option<i64> {
     };
     let register = copy.operands.get(1)?;
     let by = far.operands.first()?;
+    let step = page.operands.first()?;
     let to = again.operands.first()?.split(' ').next()?;
     let all = is(copy, "mov", ["%rsp", register])
         && is(far, "sub", [by, register])
-        && is(page, "sub", ["$0x1000", "%rsp"])
+        && is(page, "sub", [step, "%rsp"])
         && is(touch, "movq", ["$0x0", "(%rsp)"])
         && is(compare, "cmp", [register, "%rsp"])
         && again.name == "jne"
         && hex(to) == Some(page.address);
-    let bytes = constant(by)?;
-    (all && bytes > 0 && bytes % PAGE == 0).then_some(bytes)
+    let (bytes, step) = (constant(by)?, constant(step)?);
+    let steps = (1..=PAGE).contains(&step) && bytes > 0 && bytes % step == 0;
+    (all && steps).then_some(bytes)
 }
 
 #[cfg(test)]
@@ -62,5 +66,18 @@ mod tests {
             lines[place] = other;
             assert_eq!(of(lines), None);
         }
+    }
+
+    #[test]
+    fn a_probe_in_other_steps() {
+        let steps = |step: &'static str, all: &'static str| {
+            let mut lines = PROBE;
+            (lines[1], lines[2]) = (all, step);
+            of(lines)
+        };
+        let all = " d:\tsub    $0xfc00,%r11";
+        assert_eq!(steps(" 14:\tsub    $0xc00,%rsp", all), Some(0xfc00));
+        assert_eq!(steps(" 14:\tsub    $0x1000,%rsp", all), None);
+        assert_eq!(steps(" 14:\tsub    $0xfc00,%rsp", all), None);
     }
 }
