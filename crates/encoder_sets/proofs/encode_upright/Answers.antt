@@ -4,7 +4,6 @@ use Prim.Native.Nat.{ℕ, suc, ◌+◌, ◌≤◌, min}
 use native.Mathlib.Omega.{arith}
 use native.Mathlib.Numerals.{add-one}
 use lib.ListN.{length, replicate, length-replicate}
-use borrow.Author.Rules.{rules}
 use Rattle.refusal_causes.specs.Outcome.{Outcome}
 use Rattle.machine_settings.specs.Machine.{machine}
 use Rattle.machine_slices.specs.Slices.{paired}

@@ -53,7 +53,7 @@ loop-slice-preserved c =
     let m = c.meet_row-kept in
     let w = paired a.specified.now a.bits.now in
     let f = fitted_next a.chains a.table.now a.specified.now a.bits.now c.requires.slices (all_states a.cells) (units_of a.cells) l.slice l.kept (take l.kept.free l.vectors) m.result (take m.result.free m.new.vectors) c.loop-slice-test.true l.invariant.3.fitted m.ensures in
-    let e = c.if-not-kept.false in (
+    let e = not-false m.result.some c.if-not-kept.false in (
       omega arith,
       m.auto.vectors ∙ l.invariant.1,
       l.invariant.2,
