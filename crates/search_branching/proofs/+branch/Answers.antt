@@ -100,11 +100,11 @@ loop-position-preserved t c =
     let lt = c.loop-position-test.true in (
       o.auto.vectors ∙ l.invariant.0,
       rw w (elim c.if-taken-ne0.branch [
-          | then-taken-ne0 v ↦
-          rw v.found-is (branched_child a.pattern a.table.now a.rows a.lowest (take a.free a.vectors) a.before r.result (take l.left l.rest) l.found v.branch-found.result l.position lt (λ z. v.if-taken-ne0.true (e ∙ z)) l.invariant.1
-          (lowest_clear_finds a.pattern a.table.now a.rows _ _ l.found v.branch-found.result (rw (w, e) at v.branch-found.ensures)))
-          | else-taken-ne0 v ↦ rw v.found-is (branched_same a.pattern a.table.now a.rows a.lowest (take a.free a.vectors) a.before r.result (take l.left l.rest) l.found l.position lt (sym e ∙ v.if-taken-ne0.false) l.invariant.1)
-          ]),
+        | then-taken-ne0 v ↦
+            rw v.found-is (branched_child a.pattern a.table.now a.rows a.lowest (take a.free a.vectors) a.before r.result (take l.left l.rest) l.found v.branch-found.result l.position lt (λ z. v.if-taken-ne0.true (e ∙ z)) l.invariant.1
+            (lowest_clear_finds a.pattern a.table.now a.rows _ _ l.found v.branch-found.result (rw (w, e) at v.branch-found.ensures)))
+        | else-taken-ne0 v ↦ rw v.found-is (branched_same a.pattern a.table.now a.rows a.lowest (take a.free a.vectors) a.before r.result (take l.left l.rest) l.found l.position lt (sym e ∙ v.if-taken-ne0.false) l.invariant.1)
+      ]),
     )
 
 pub returns : goal.returns

@@ -71,9 +71,9 @@ loop-group-preserved c =
     let d = c.dead_lanes-dead in (
       omega arith,
       elim c.if-dead.branch [
-          | then-dead+else-reached+else-lane-lt64 v ↦ group_passed a.pattern a.table.now a.rows a.lowest (take a.free a.vectors.now) l.group v.clear_lane-lane.result (omega (arith, v.if-lane-lt64.false)) l.invariant.1 v.clear_lane-lane.ensures
-          | else-dead v ↦ group_dead a.pattern a.table.now a.rows a.lowest (take a.free a.vectors.now) l.group d.result (omega (arith, v.if-dead.false)) l.invariant.1
-          (dead_clear a.pattern a.table.now a.rows a.lowest (take a.free a.vectors.now) a.words.now a.count l.group d.result h c.requires.filled d.ensures)
+        | then-dead+else-reached+else-lane-lt64 v ↦ group_passed a.pattern a.table.now a.rows a.lowest (take a.free a.vectors.now) l.group v.clear_lane-lane.result (omega (arith, v.if-lane-lt64.false)) l.invariant.1 v.clear_lane-lane.ensures
+        | else-dead v ↦ group_dead a.pattern a.table.now a.rows a.lowest (take a.free a.vectors.now) l.group d.result (omega (arith, v.if-dead.false)) l.invariant.1
+            (dead_clear a.pattern a.table.now a.rows a.lowest (take a.free a.vectors.now) a.words.now a.count l.group d.result h c.requires.filled d.ensures)
       ],
     )
 

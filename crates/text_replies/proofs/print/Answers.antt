@@ -10,6 +10,6 @@ returns-in-Text c = record { count = rw c.in-Text.is refl; buffer = rw c.in-Text
 pub returns-in-Refused : goal.returns-in-Refused
 unfolding shown
 returns-in-Refused c = record {
-      count = rw c.in-Refused.is (c.bytes_of.ensures ∙ ap bytes_of c.write_refusal.ensures.answer);
-      buffer = rw c.in-Refused.is c.write_refusal.ensures.buffer;
-    }
+  count = rw c.in-Refused.is (c.bytes_of.ensures ∙ ap bytes_of c.write_refusal.ensures.answer);
+  buffer = rw c.in-Refused.is c.write_refusal.ensures.buffer;
+}

@@ -58,8 +58,8 @@ loop-slice-preserved c =
       m.auto.vectors ∙ l.invariant.1,
       l.invariant.2,
       elim c.if-slice-places.branch [
-          | then-slice-places v ↦ rw v.spaces-is (growing_next a.chains a.table.now w a.cells (length a.spaces.now) l.slice l.kept (take l.kept.free l.vectors) l.spaces l.invariant.3 m.result (take m.result.free m.new.vectors) f e v.store.new.spaces v.store.auto.spaces v.store.ensures.before v.store.ensures.space)
-          | else-slice-places v ↦ rw v.spaces-is (growing_beyond a.chains a.table.now w a.cells (length a.spaces.now) l.slice l.kept (take l.kept.free l.vectors) l.spaces l.invariant.3 m.result (take m.result.free m.new.vectors) f e (omega (arith, v.if-slice-places.false)))
+        | then-slice-places v ↦ rw v.spaces-is (growing_next a.chains a.table.now w a.cells (length a.spaces.now) l.slice l.kept (take l.kept.free l.vectors) l.spaces l.invariant.3 m.result (take m.result.free m.new.vectors) f e v.store.new.spaces v.store.auto.spaces v.store.ensures.before v.store.ensures.space)
+        | else-slice-places v ↦ rw v.spaces-is (growing_beyond a.chains a.table.now w a.cells (length a.spaces.now) l.slice l.kept (take l.kept.free l.vectors) l.spaces l.invariant.3 m.result (take m.result.free m.new.vectors) f e (omega (arith, v.if-slice-places.false)))
       ],
     )
 
