@@ -5,9 +5,10 @@ ghost use Rattle.std.specs.Prelude.{◌≡◌, ◌++◌, ◌≤◌, length, drop
 ghost use Rattle.io.specs.Counts.{IsPrefixLen};
 ghost use Rattle.text_bounds.specs.Bounds.{most_text};
 ghost use Rattle.text_calls.specs.Texts.{encode_reply, encode_text};
+ghost use Rattle.text_program.specs.Answered.{IsAnswered};
 ghost use Rattle.text_meaning.specs.Sheets.{SheetMeaning};
 
-use libc::STDOUT_FILENO;
+use std::io::{Read, Write};
 use text_order::Kind;
 
 // What is printed for a sheet, at the front of a buffer that has space for every answer: how many bytes it is.
@@ -21,10 +22,17 @@ fn reply(sheet: &[u8], out: &mut [u8]) -> usize
     text_program::reply(Kind::Sheet, sheet, out)
 }
 
-fn main() {
+// Reads a sheet in full and writes what is printed for it, until the writer takes no more.
+fn run<R: Read, W: Write>(reader: &mut R, writer: &mut W)
+    ensures { IsAnswered encode_text (R.remaining reader.old) (R.remaining reader.new) (W.contents writer.old) (W.contents writer.new) }
+{
     let mut input = [0u8; text_program::LONGEST_INPUT];
     let mut output = [0u8; text_program::LONGEST_OUTPUT];
-    let n = text_program::read_text(&mut input);
+    let n = text_program::read_text(reader, &mut input);
     let count = reply(&input[..n], &mut output);
-    stream::write_all(STDOUT_FILENO, &output[..count]);
+    stream::write_all(writer, &output[..count]);
+}
+
+fn main(rt: HostRuntime) {
+    run(&mut rt.stdin(), &mut rt.stdout());
 }

@@ -1,13 +1,14 @@
-// What the programs on texts have in common: what is printed for a text, by its kind, and the reading of standard input (document 01, "Sheet and seed list").
+// What the programs on texts have in common: what is printed for a text, by its kind, and the reading of their input (document 01, "Sheet and seed list").
 #![tactic(auto)]
 
-ghost use Rattle.std.specs.Prelude.{◌≡◌, ◌++◌, ◌≤◌, length, drop};
+ghost use Rattle.std.specs.Prelude.{◌≡◌, ◌++◌, ◌≤◌, length, take, drop};
+ghost use Rattle.std.specs.Io.KnownBytes.{Consumes};
 ghost use Rattle.io.specs.Counts.{IsPrefixLen};
 ghost use Rattle.text_bounds.specs.Bounds.{enough, most_text};
 ghost use Rattle.text_calls.specs.Texts.{reply_to, printed_for};
 ghost use Rattle.text_meaning.specs.Calls.{ReplyMeaning};
 
-use libc::STDIN_FILENO;
+use std::io::Read;
 use text_order::Kind;
 
 // The bytes of the input that can decide the answer.
@@ -31,9 +32,10 @@ pub fn reply(kind: Kind, text: &[u8], out: &mut [u8]) -> usize
 
 // Reads the text into a buffer that holds every byte that can decide the answer; what follows them is not read. How many bytes there are.
 // An inner function: the programs show that the buffer does. What stands on standard input is not the program's to promise.
-pub fn read_text(buffer: &mut [u8]) -> usize
+pub fn read_text<R: Read>(reader: &mut R, buffer: &mut [u8]) -> usize
     requires { enough ≤ length buffer.old }
-    ensures { IsPrefixLen result buffer.new }
+    ensures within { IsPrefixLen result buffer.new }
+    ensures bytes { Consumes (R.remaining reader.old) (R.remaining reader.new) (take result buffer.new) }
 {
-    stream::read_all(STDIN_FILENO, buffer)
+    stream::read_all(reader, buffer)
 }

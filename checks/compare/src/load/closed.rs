@@ -7,14 +7,11 @@ use super::running::{all_of, pipe_with_room, Ended, Running};
 use crate::report::same;
 use crate::text::{shown, Text};
 
-/// The signal of a write that nobody will read.
-const BROKEN_PIPE: i32 = 13;
-
 /// Bytes that the pipe has room for.
 const ROOM: usize = 4_096;
 
-/// Lines of the shell: the signal ends the program, or is ignored.
-const SIGNALLED: &str = r#"exec "$0" < "$1""#;
+/// Lines of the shell: the signal of a write that nobody will read is as by default, or is ignored.
+const DEFAULT: &str = r#"exec "$0" < "$1""#;
 const IGNORED: &str = r#"trap "" PIPE; exec "$0" < "$1""#;
 
 /// The pipe is closed before the program starts.
@@ -33,18 +30,15 @@ fn closed_within(line: &str, programs: &Programs, largest: &Largest) -> Result<E
     running.wait()
 }
 
-/// Both programs on the largest text: each ends by the signal, or by itself where that is ignored.
+/// Both programs on the largest text: each ends by itself, for a program of the toolchain ignores the signal.
 pub fn pipes(programs: &Programs, files: &Files) -> Result<Found, String> {
     let mut found = Found::default();
     for largest in files.both() {
-        for (line, signal) in [(SIGNALLED, "default"), (IGNORED, "ignored")] {
+        for (line, signal) in [(DEFAULT, "default"), (IGNORED, "ignored")] {
             let before = closed_before(line, programs, largest)?;
             let within = closed_within(line, programs, largest)?;
             for (ended, taken) in [(before, 0), (within, ROOM)] {
-                match line == SIGNALLED {
-                    true => ended.by_signal(BROKEN_PIPE)?,
-                    false => ended.by_itself()?,
-                }
+                ended.by_itself()?;
                 found.compared += 1;
                 found.say(format!(
                     "{}, closed after {taken} of {} bytes, SIGPIPE {signal}: {}",

@@ -41,6 +41,30 @@ slice_bounds-reach-count-in-loop-place c =
     let l = c.loop-place in
     (part_bounds a.sought.settings a.masks.now a.sought.stop a.sought.closing a.specified.now a.bits.now c.requires.slices l.place c.far-end.result (omega (arith, c.loop-place-test.true)) (c.far-end.ensures a.sought.stop a.sought.closing)).0
 
+pub slice_bounds-reach-start : goal.slice_bounds-reach-start
+slice_bounds-reach-start c =
+    let a = c.args in
+    let l = c.loop-place in
+    (part_bounds a.sought.settings a.masks.now a.sought.stop a.sought.closing a.specified.now a.bits.now c.requires.slices l.place c.far-end.result (omega (arith, c.loop-place-test.true)) (c.far-end.ensures a.sought.stop a.sought.closing)).0
+
+pub slice_bounds-reach-end : goal.slice_bounds-reach-end
+slice_bounds-reach-end c =
+    let a = c.args in
+    let l = c.loop-place in
+    (part_bounds a.sought.settings a.masks.now a.sought.stop a.sought.closing a.specified.now a.bits.now c.requires.slices l.place c.far-end.result (omega (arith, c.loop-place-test.true)) (c.far-end.ensures a.sought.stop a.sought.closing)).1
+
+pub slice_bounds-reach-start-in-loop-place : goal.slice_bounds-reach-start-in-loop-place
+slice_bounds-reach-start-in-loop-place c =
+    let a = c.args in
+    let l = c.loop-place in
+    (part_bounds a.sought.settings a.masks.now a.sought.stop a.sought.closing a.specified.now a.bits.now c.requires.slices l.place c.far-end.result (omega (arith, c.loop-place-test.true)) (c.far-end.ensures a.sought.stop a.sought.closing)).0
+
+pub slice_bounds-reach-end-in-loop-place : goal.slice_bounds-reach-end-in-loop-place
+slice_bounds-reach-end-in-loop-place c =
+    let a = c.args in
+    let l = c.loop-place in
+    (part_bounds a.sought.settings a.masks.now a.sought.stop a.sought.closing a.specified.now a.bits.now c.requires.slices l.place c.far-end.result (omega (arith, c.loop-place-test.true)) (c.far-end.ensures a.sought.stop a.sought.closing)).2
+
 pub reach-longest-requires : goal.reach-longest-requires
 reach-longest-requires c =
     let a = c.args in

@@ -4,7 +4,6 @@ use Prim.Native.Nat.{ℕ, suc, ◌+◌, ◌≤◌, min}
 use native.Mathlib.Omega.{arith}
 use native.Mathlib.Numerals.{add-one}
 use lib.ListN.{length, replicate, length-replicate}
-use borrow.Author.Rules.{rules}
 use Rattle.refusal_causes.specs.Outcome.{Outcome}
 use Rattle.machine_settings.specs.Machine.{machine}
 use Rattle.machine_slices.specs.Slices.{paired}
@@ -36,7 +35,7 @@ gather-gathered-requires c =
     let l = c.lesser-rows in
     let k = c.fill_stops-pattern in
     let f = c.fill in
-    let n : l.result + 1 ≡ suc (min a.settings.limit (length a.specified.now)) = add-one l.result ∙ ap suc l.ensures in record { ready = rw (sym n) (tables_filled a.settings a.masks.now a.stop k.result f.last.1.1.1.0 k.last.1.1.1.1.0 _ _ (l.result + 1) w.register w.chains c.requires.1 w.stop k.ensures.answer f.ensures k.ensures.buffer); slices = w.slices; lengths = (w.most, (set-within (length a.specified.now) w.lengths).1, (set-within (length a.specified.now) w.lengths).1); earlier = (omega arith, omega arith) }
+    let n : l.result + 1 ≡ suc (min a.settings.limit (length a.specified.now)) = add-one l.result ∙ ap suc l.ensures in record { ready = rw (sym n) (tables_filled a.settings a.masks.now a.stop k.result f.new.table k.new.stops _ _ (l.result + 1) w.register w.chains c.requires.1 w.stop k.ensures.answer f.ensures k.ensures.buffer); slices = w.slices; lengths = (w.most, (set-within (length a.specified.now) w.lengths).1, (set-within (length a.specified.now) w.lengths).1); earlier = (omega arith, omega arith) }
 
 pub settle-requires : goal.settle-requires
 settle-requires c =
@@ -44,7 +43,7 @@ settle-requires c =
     let w = set-formed a.settings a.masks.now a.stop a.specified.now a.bits.now c.requires.0 in
     let room : length (paired a.specified.now a.bits.now) ≤ length {A = ℕ} (replicate 2048 0) = rw (length-replicate {A = ℕ} 2048 0) (omega (arith, (set-within (length a.specified.now) w.lengths).1, slices_length (length a.masks.now) a.specified.now a.bits.now w.slices)) in
     let r = c.gather-gathered in
-    gathered_held (machine a.settings a.masks.now) _ (paired a.specified.now a.bits.now) _ room r.result r.last.1.1.1.1.1.1.1.0 r.ensures.answer r.ensures.buffer
+    gathered_held (machine a.settings a.masks.now) _ (paired a.specified.now a.bits.now) _ room r.result r.new.seeds r.ensures.answer r.ensures.buffer
 
 pub returns : goal.returns
 returns c =
@@ -53,4 +52,4 @@ returns c =
     let t = c.settle in
     let w = set-formed a.settings a.masks.now a.stop a.specified.now a.bits.now c.requires.0 in
     let room : length (paired a.specified.now a.bits.now) ≤ length {A = ℕ} (replicate 2048 0) = rw (length-replicate {A = ℕ} 2048 0) (omega (arith, (set-within (length a.specified.now) w.lengths).1, slices_length (length a.masks.now) a.specified.now a.bits.now w.slices)) in
-    let e = settled-encoding (machine a.settings a.masks.now) (rules a.settings a.stop) (paired a.specified.now a.bits.now) _ room r.result r.last.1.1.1.1.1.1.1.0 r.ensures.answer r.ensures.buffer (length a.specified.now) a.out.now (slices_length (length a.masks.now) a.specified.now a.bits.now w.slices) in record { answer = t.ensures.answer ∙ ap (λ (o : Outcome). o.answer) e; buffer = t.ensures.buffer ∙ ap (λ (o : Outcome). o.buffer) e }
+    let e = settled-encoding (machine a.settings a.masks.now) (rules a.settings a.stop) (paired a.specified.now a.bits.now) _ room r.result r.new.seeds r.ensures.answer r.ensures.buffer (length a.specified.now) a.out.now (slices_length (length a.masks.now) a.specified.now a.bits.now w.slices) in record { answer = t.ensures.answer ∙ ap (λ (o : Outcome). o.answer) e; buffer = t.ensures.buffer ∙ ap (λ (o : Outcome). o.buffer) e }

@@ -1,7 +1,6 @@
 -- `expander_list::expand_formed` meets its contract. Assumes nothing.
 use mathlib.Core.Path.{◌≡◌, sym, ◌∙◌}
 use native.Mathlib.Omega.{arith}
-use borrow.Author.Rules.{rules}
 use Rattle.refusal_causes.specs.declared.Written.TheVariants.{Count, Refused}
 use Rattle.machine_settings.specs.Machine.{machine}
 use Rattle.theory_covering.specs.Rules.{rules}

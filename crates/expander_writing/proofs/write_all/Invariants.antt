@@ -3,7 +3,6 @@ use mathlib.Core.Path.{◌≡◌}
 use mathlib.Core.List.{List}
 use Prim.Native.Nat.{ℕ, ◌-◌, ◌≤◌}
 use lib.ListN.{length}
-use borrow.Author.Rules.{rules}
 use Rattle.machine_settings.specs.Machine.{machine}
 use Rattle.theory_covering.specs.Rules.{rules}
 use Rattle.expander_meaning.specs.Expanding.{ran, walk}

@@ -47,8 +47,8 @@ loop-row-preserved c =
       elim c.if-fill_row.branch [ then-fill_row v ↦ omega (arith, v.count-is) | else-fill_row v ↦ omega (arith, v.count-is) ],
       k ∙ l.invariant.2,
       elim c.if-fill_row.branch [
-          | then-fill_row v ↦ rw v.count-is (filled_row a.pattern a.table.now a.rows a.lowest (take a.free a.vectors.now) l.words o.new.words l.count _ refl k o.ensures.before l.invariant.3 l.row (omega arith) room (o.ensures.words v.if-fill_row.true))
-          | else-fill_row v ↦ rw v.count-is (filled_same a.pattern a.table.now a.rows a.lowest (take a.free a.vectors.now) l.words o.new.words l.count _ refl k o.ensures.before l.invariant.3)
+        | then-fill_row v ↦ rw v.count-is (filled_row a.pattern a.table.now a.rows a.lowest (take a.free a.vectors.now) l.words o.new.words l.count _ refl k o.ensures.before l.invariant.3 l.row (omega arith) room (o.ensures.words v.if-fill_row.true))
+        | else-fill_row v ↦ rw v.count-is (filled_same a.pattern a.table.now a.rows a.lowest (take a.free a.vectors.now) l.words o.new.words l.count _ refl k o.ensures.before l.invariant.3)
       ],
     )
 

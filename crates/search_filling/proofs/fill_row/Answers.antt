@@ -40,10 +40,13 @@ shape_of-words-then-low-high-eq0 c = simp length-set c.loop-column.invariant.lon
 
 pub returns-then-low-high-eq0 : goal.returns-then-low-high-eq0
 returns-then-low-high-eq0 c =
-    let l = c.loop-column in record { before = λ i h.
+    let l = c.loop-column in record {
+      before = λ i h.
           set_before (set l.words l.place c.column_of-pair.result.low) (l.place + 1) c.column_of-pair.result.high i (omega (arith, l.invariant.stands))
           ∙ set_before l.words l.place c.column_of-pair.result.low i (omega (arith, l.invariant.stands))
-          ∙ l.invariant.same i h; words = λ e. absurd (clash false e refl) }
+          ∙ l.invariant.same i h;
+      words = λ e. absurd (clash false e refl);
+    }
 
 pub loop-column-preserved : goal.loop-column-preserved
 loop-column-preserved c =

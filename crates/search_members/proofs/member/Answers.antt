@@ -21,8 +21,8 @@ loop-place-preserved c =
     let g = get_or-take a.free a.vectors.now l.place 0 (omega arith) in (
       omega arith,
       l.invariant.1 ∙ elim c.if-left-eq1.branch [
-          | then-left-eq1 w ↦ rw (w.state-is, sym g) (number-take (take a.free a.vectors.now) l.state l.left l.place h w.if-left-eq1.true)
-          | else-left-eq1 w ↦ rw w.state-is (number_skip (take a.free a.vectors.now) l.state l.left l.place h w.if-left-eq1.false)
+        | then-left-eq1 w ↦ rw (w.state-is, sym g) (number-take (take a.free a.vectors.now) l.state l.left l.place h w.if-left-eq1.true)
+        | else-left-eq1 w ↦ rw w.state-is (number_skip (take a.free a.vectors.now) l.state l.left l.place h w.if-left-eq1.false)
       ],
     )
 

@@ -11,7 +11,7 @@ use lib.ListN.{take}
 use Rattle.search_members.specs.Members.{pick}
 use Rattle.search_rows.specs.Rows.{clear}
 use Rattle.search_sifting.proofs.clear_lane.Goals as goal
-use Rattle.search_sifting.proofs.clear_lane.Goals.{then-digit-eq0, else-digit-eq0}
+use Rattle.search_sifting.proofs.clear_lane.Goals.{then-digit-eq0+else-first_shown-rows, else-digit-eq0}
 
 pub loop-lane-init : goal.loop-lane-init
 loop-lane-init c = (omega arith, λ j h. absurd (omega arith))
@@ -31,7 +31,7 @@ loop-lane-preserved c =
     let l = c.loop-lane in (
       omega arith,
       below_more (λ (j : ℕ). clear a.pattern a.table.now a.rows (pick a.lowest (take a.free a.vectors.now) (a.group * 64 + j)) ≡ false) l.lane l.invariant.1
-          (elim c.if-digit-eq0.branch [ then-digit-eq0 v ↦ rw (sym v.member-state.ensures) (first_unclear a.pattern a.table.now a.rows v.member-state.result v.first_shown.result v.first_shown.ensures v.if-first_shown-rows.false) | else-digit-eq0 v ↦ c.requires.dead l.lane (omega arith) (omega (arith, digit_lt a.dead l.lane, c.digit.ensures, v.if-digit-eq0.false)) ]),
+          (elim c.if-digit-eq0.branch [ then-digit-eq0+else-first_shown-rows v ↦ rw (sym v.member-state.ensures) (first_unclear a.pattern a.table.now a.rows v.member-state.result v.first_shown.result v.first_shown.ensures v.if-first_shown-rows.false) | else-digit-eq0 v ↦ c.requires.dead l.lane (omega arith) (omega (arith, digit_lt a.dead l.lane, c.digit.ensures, v.if-digit-eq0.false)) ]),
     )
 
 pub returns : goal.returns

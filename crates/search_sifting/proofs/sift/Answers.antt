@@ -10,7 +10,7 @@ use Rattle.words_gf2.proofs.Digits.{one_shifted}
 use Rattle.search_excluding.proofs.Excluding.{dead_clear}
 use Rattle.search_sifting.proofs.Sifting.{group_first, group_passed, group_dead, found_none, found_number, found_before, groups_few, groups_whole}
 use Rattle.search_sifting.proofs.sift.Goals as goal
-use Rattle.search_sifting.proofs.sift.Goals.{then-dead, else-dead}
+use Rattle.search_sifting.proofs.sift.Goals.{then-dead+else-reached+else-lane-lt64, else-dead}
 
 pub overflow_shl-groups : goal.overflow_shl-groups
 overflow_shl-groups c = omega (arith, c.requires.leaf.0.few)
@@ -71,9 +71,9 @@ loop-group-preserved c =
     let d = c.dead_lanes-dead in (
       omega arith,
       elim c.if-dead.branch [
-          | then-dead v ↦ group_passed a.pattern a.table.now a.rows a.lowest (take a.free a.vectors.now) l.group v.clear_lane.result (omega arith) l.invariant.1 v.clear_lane.ensures
-          | else-dead v ↦ group_dead a.pattern a.table.now a.rows a.lowest (take a.free a.vectors.now) l.group d.result (omega arith) l.invariant.1
-          (dead_clear a.pattern a.table.now a.rows a.lowest (take a.free a.vectors.now) a.words.now a.count l.group d.result h c.requires.filled d.ensures)
+        | then-dead+else-reached+else-lane-lt64 v ↦ group_passed a.pattern a.table.now a.rows a.lowest (take a.free a.vectors.now) l.group v.clear_lane-lane.result (omega (arith, v.if-lane-lt64.false)) l.invariant.1 v.clear_lane-lane.ensures
+        | else-dead v ↦ group_dead a.pattern a.table.now a.rows a.lowest (take a.free a.vectors.now) l.group d.result (omega (arith, v.if-dead.false)) l.invariant.1
+            (dead_clear a.pattern a.table.now a.rows a.lowest (take a.free a.vectors.now) a.words.now a.count l.group d.result h c.requires.filled d.ensures)
       ],
     )
 

@@ -14,8 +14,8 @@ loop-chain-preserved c =
     let a = c.args in
     let l = c.loop-chain in
     elim c.if-left-eq1.branch [
-    | then-left-eq1 w ↦ rw (w.chosen-is, w.count-is) (choosing_take a.specified a.masks.now a.chosen.now l.left l.count l.chain l.chosen (omega arith) l.invariant w.if-left-eq1.true)
-    | else-left-eq1 w ↦ rw (w.chosen-is, w.count-is) (choosing_skip a.specified a.masks.now a.chosen.now l.left l.count l.chain l.chosen (omega arith) l.invariant w.if-left-eq1.false)
+      | then-left-eq1 w ↦ rw (w.chosen-is, w.count-is) (choosing_take a.specified a.masks.now a.chosen.now l.left l.count l.chain l.chosen (omega arith) l.invariant w.if-left-eq1.true)
+      | else-left-eq1 w ↦ rw (w.chosen-is, w.count-is) (choosing_skip a.specified a.masks.now a.chosen.now l.left l.count l.chain l.chosen (omega arith) l.invariant w.if-left-eq1.false)
     ]
 
 pub returns : goal.returns

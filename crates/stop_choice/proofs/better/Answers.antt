@@ -11,11 +11,11 @@ returns-in-Nothing c = let a = c.args in sym (ap (track a.choice a.count) c.in-N
 pub returns-then-most-count : goal.returns-then-most-count
 returns-then-most-count c =
     let a = c.args in
-    let b = c.best-1.given in
-    sym (ap (track a.choice a.count) b.1 ∙ track_more a.choice a.count b.0.0 b.0.1.0 c.if-most-count.true)
+    let b = c.in-Choice in
+    sym (ap (track a.choice a.count) b.is ∙ track_more a.choice a.count b.other b.most c.if-most-count.true)
 
 pub returns-else-most-count : goal.returns-else-most-count
 returns-else-most-count c =
     let a = c.args in
-    let b = c.best-1.given in
-    sym (ap (track a.choice a.count) b.1 ∙ track_less a.choice a.count b.0.0 b.0.1.0 c.if-most-count.false)
+    let b = c.in-Choice in
+    sym (ap (track a.choice a.count) b.is ∙ track_less a.choice a.count b.other b.most c.if-most-count.false)

@@ -11,8 +11,8 @@ returns-then-count_in-eq0 c = sym (next_empty _ _ _ _ (sym c.count_in.ensures �
 
 pub put-requires : goal.put-requires
 put-requires c =
-    let b = c.best-1.given.0 in
-    let e : chosen c.args.chains c.args.stop c.args.specified.now c.args.bits.now ≡ Choice b.0 b.1.0 = sym c.choose-best.ensures ∙ c.in-Choice.is in record { unset = chosen_unset _ _ _ _ _ _ c.requires.chains c.requires.stop e; bit = omega arith }
+    let b = c.in-Choice in
+    let e : chosen c.args.chains c.args.stop c.args.specified.now c.args.bits.now ≡ Choice b.choice b.field-1 = sym c.choose-best.ensures ∙ c.in-Choice.is in record { unset = chosen_unset _ _ _ _ _ _ c.requires.chains c.requires.stop e; bit = omega arith }
 
 pub returns-in-Nothing : goal.returns-in-Nothing
 returns-in-Nothing c =
@@ -21,6 +21,6 @@ returns-in-Nothing c =
 
 pub returns-in-Choice : goal.returns-in-Choice
 returns-in-Choice c =
-    let b = c.best-1.given.0 in
-    let e : chosen c.args.chains c.args.stop c.args.specified.now c.args.bits.now ≡ Choice b.0 b.1.0 = sym c.choose-best.ensures ∙ c.in-Choice.is in
+    let b = c.in-Choice in
+    let e : chosen c.args.chains c.args.stop c.args.specified.now c.args.bits.now ≡ Choice b.choice b.field-1 = sym c.choose-best.ensures ∙ c.in-Choice.is in
     c.put.ensures ∙ sym (next_some _ _ _ _ _ _ (λ z. c.if-count_in-eq0.false (c.count_in.ensures ∙ z)) e)

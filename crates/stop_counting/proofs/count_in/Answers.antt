@@ -19,8 +19,8 @@ loop-i-preserved c =
     let e = c.is_in.ensures in
     let inside : l.i < min (length a.specified.now) (length a.bits.now) = omega arith in
     elim c.if-is_in.branch [
-    | then-is_in w ↦ let r = in_hit a.stop a.specified.now a.bits.now l.i inside (sym e ∙ w.if-is_in.true) in (l.invariant.0, omega arith, omega arith, omega arith)
-    | else-is_in w ↦ let r = in_miss a.stop a.specified.now a.bits.now l.i inside (sym e ∙ w.if-is_in.false) in (l.invariant.0, omega arith, omega arith, omega arith)
+      | then-is_in w ↦ let r = in_hit a.stop a.specified.now a.bits.now l.i inside (sym e ∙ w.if-is_in.true) in (l.invariant.0, omega arith, omega arith, omega arith)
+      | else-is_in w ↦ let r = in_miss a.stop a.specified.now a.bits.now l.i inside (sym e ∙ w.if-is_in.false) in (l.invariant.0, omega arith, omega arith, omega arith)
     ]
 
 pub returns : goal.returns

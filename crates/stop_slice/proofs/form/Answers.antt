@@ -25,8 +25,7 @@ loop-steps-preserved c =
 
 pub spared-requires : goal.spared-requires
 spared-requires c =
-    let l = c.loop-steps in
-    form_few _ _ _ l.stop l.steps l.invariant.1 (omega arith) (λ z. c.if-left-eq0.false (c.count_in-left.ensures ∙ z))
+    let l = c.loop-steps in record { few = form_few _ _ _ l.stop l.steps l.invariant.1 (omega arith) (λ z. c.if-left-eq0.false (c.count_in-left.ensures ∙ z)) }
 
 pub returns-then-left-eq0 : goal.returns-then-left-eq0
 returns-then-left-eq0 c =

@@ -1,35 +1,27 @@
--- `stream::write_all` meets its contract. The measure: the bytes that are left.
--- Assumes nothing.
-use Prim.Native.Nat.{◌-◌}
-use native.Mathlib.Omega.{arith}
-use mathlib.Core.Path.{sym}
-use lib.Seq.{length-take-le}
-use Rattle.stream.proofs.Parts.{part_within}
+-- `stream::write_all`: what one write takes stands in the bytes right behind what was sent.
+use Rattle.std.proofs.Common.{◌≡◌, ℕ, ◌+◌, ◌-◌, ◌≤◌, List, ◌++◌, arith, length, take, drop, ap, sym, ◌∙◌, subst}
+use Rattle.std.proofs.lemmas.List.{take-take}
+use Rattle.std.proofs.Math.ListN.{length-take, length-drop}
+use Rattle.std.proofs.Math.Seq.{take-add}
+use Rattle.std.specs.Io.KnownBytes.{Appends}
+use Rattle.std.proofs.KnownBytes.{Appends-trans}
 use Rattle.stream.proofs.write_all.Goals as goal
 
-pub loop-sent-init : goal.loop-sent-init
-loop-sent-init c = omega arith
+-- how many bytes of the part from a place on there are, at most those that are left
+part_fits : (xs : List ℕ) (sent more : ℕ) → more ≤ length (take (length xs - sent) (drop sent xs)) → more ≤ length xs - sent
+part_fits xs sent more h = omega (arith, h, length-take (length xs - sent) (drop sent xs), length-drop sent xs)
 
-pub slice_bounds-write_some-count : goal.slice_bounds-write_some-count
-slice_bounds-write_some-count c = omega arith
-
-pub returns-then-more-eq0 : goal.returns-then-more-eq0
-returns-then-more-eq0 c = let h = c.loop-sent.invariant in (h, sym (length-take-le _ _ h))
-
-pub overflow_add-sent : goal.overflow_add-sent
-overflow_add-sent c =
-    let m = part_within _ c.loop-sent.sent c.args.bytes.now c.write_some-more.ensures in
-    omega (arith, m)
-
-pub loop-sent-smaller : goal.loop-sent-smaller
-loop-sent-smaller c =
-    let m = part_within _ c.loop-sent.sent c.args.bytes.now c.write_some-more.ensures in
-    omega (arith, m)
+-- the first bytes of the part from `sent` on, behind the first `sent` bytes
+sent_more : (xs : List ℕ) (sent more : ℕ) → more ≤ length xs - sent → take sent xs ++ take more (take (length xs - sent) (drop sent xs)) ≡ take (sent + more) xs
+sent_more xs sent more h = ap (λ l. take sent xs ++ l) (take-take more (length xs - sent) (drop sent xs) h) ∙ sym (take-add sent more xs)
 
 pub loop-sent-preserved : goal.loop-sent-preserved
-loop-sent-preserved c =
-    let m = part_within _ c.loop-sent.sent c.args.bytes.now c.write_some-more.ensures in
-    omega (arith, m)
-
-pub returns : goal.returns
-returns c = let h = c.loop-sent.invariant in (h, sym (length-take-le _ _ h))
+loop-sent-preserved g c =
+    let xs = c.args.bytes.now in
+    let sent = c.loop-sent.sent in
+    let more = c.write_some-more.result in
+    let h = part_fits xs sent more c.write_some-more.ensures.within.0 in
+    record {
+      in_range = omega (arith, h, c.loop-sent-test.true);
+      given = subst (Appends _ _) (sent_more xs sent more h) (Appends-trans _ _ _ _ _ c.loop-sent.invariant.given c.write_some-more.ensures.bytes);
+    }

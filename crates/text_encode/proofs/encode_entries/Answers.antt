@@ -21,4 +21,4 @@ encode_under-requires c =
 
 pub returns : goal.returns
 unfolding sheet_reply
-returns c = let w = rw (← (head-front (entries_in c.args.entries.now) c.requires _ _ c.write_head-size.ensures)) c.encode_under.ensures in record { answer = w.0; buffer = w.1 }
+returns c = record { answer = rw (← (head-front (entries_in c.args.entries.now) c.requires _ _ c.write_head-size.ensures)) c.encode_under.ensures.answer; buffer = rw (← (head-front (entries_in c.args.entries.now) c.requires _ _ c.write_head-size.ensures)) c.encode_under.ensures.buffer }

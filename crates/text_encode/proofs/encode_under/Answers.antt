@@ -30,11 +30,19 @@ pub returns : goal.returns
 unfolding reply_under
 returns c =
     let es = entries_in c.args.entries.now in
-    let p = parts_long key.Slice es in let w = rw (
-      ← c.settings.ensures,
-      ← c.number-depth.ensures,
-      ← (few_front 64 (masks_of es) c.requires.1.masks _ c.numbers-chains.ensures.count _ c.numbers-chains.ensures.list),
-      ← (few_front 2048 (specified_of es) c.requires.1.slices _ c.numbers-slices.ensures.count _ c.numbers-slices.ensures.list),
-      ← (few_front 2048 (bits_of es) (omega (arith, p, c.requires.1.slices)) _ (c.numbers-slices.ensures.count ∙ p) _ c.numbers.ensures.list),
-    )
-    c.encode_said.ensures in record { answer = w.0; buffer = w.1 }
+    let p = parts_long key.Slice es in record {
+      answer = rw (
+        ← c.settings.ensures,
+        ← c.number-depth.ensures,
+        ← (few_front 64 (masks_of es) c.requires.1.masks _ c.numbers-chains.ensures.count _ c.numbers-chains.ensures.list),
+        ← (few_front 2048 (specified_of es) c.requires.1.slices _ c.numbers-slices.ensures.count _ c.numbers-slices.ensures.list),
+        ← (few_front 2048 (bits_of es) (omega (arith, p, c.requires.1.slices)) _ (c.numbers-slices.ensures.count ∙ p) _ c.numbers.ensures.list),
+      ) c.encode_said.ensures.answer;
+      buffer = rw (
+        ← c.settings.ensures,
+        ← c.number-depth.ensures,
+        ← (few_front 64 (masks_of es) c.requires.1.masks _ c.numbers-chains.ensures.count _ c.numbers-chains.ensures.list),
+        ← (few_front 2048 (specified_of es) c.requires.1.slices _ c.numbers-slices.ensures.count _ c.numbers-slices.ensures.list),
+        ← (few_front 2048 (bits_of es) (omega (arith, p, c.requires.1.slices)) _ (c.numbers-slices.ensures.count ∙ p) _ c.numbers.ensures.list),
+      ) c.encode_said.ensures.buffer;
+    }

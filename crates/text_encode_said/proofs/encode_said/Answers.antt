@@ -4,4 +4,4 @@ use Rattle.text_encode_said.proofs.encode_said.Goals as goal
 
 pub returns : goal.returns
 unfolding encoded
-returns c = let w = rw (← c.encode_cubes-encoded.ensures.answer, ← c.encode_cubes-encoded.ensures.buffer) c.reply_list.ensures in record { answer = w.0; buffer = w.1 }
+returns c = record { answer = rw (← c.encode_cubes-encoded.ensures.answer, ← c.encode_cubes-encoded.ensures.buffer) c.reply_list.ensures.answer; buffer = rw (← c.encode_cubes-encoded.ensures.answer, ← c.encode_cubes-encoded.ensures.buffer) c.reply_list.ensures.buffer }

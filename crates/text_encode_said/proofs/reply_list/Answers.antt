@@ -21,8 +21,9 @@ write_list-written-requires c =
     (omega (arith, h.0), omega (arith, h.1), omega (arith, h.2, length-take c.lesser-count.result c.args.seeds.now))
 
 pub returns-in-Seeds : goal.returns-in-Seeds
-returns-in-Seeds c = let w = rw c.in-Seeds.is (list_leaves _ _ _ _ _ _ _ _ c.lesser-count.ensures _ _ _ c.answered.ensures c.write_list-written.ensures.answer c.write_list-written.ensures.buffer) in record { answer = w.0; buffer = w.1 }
+returns-in-Seeds c =
+    let p = list_leaves _ _ _ _ _ _ _ _ c.lesser-count.ensures _ _ _ c.answered.ensures c.write_list-written.ensures.answer c.write_list-written.ensures.buffer in record { answer = rw c.in-Seeds.is p.0; buffer = rw c.in-Seeds.is p.1 }
 
 pub returns-in-Refused : goal.returns-in-Refused
 unfolding list_reply called
-returns-in-Refused c = let w = rw (c.in-Refused.is, c.refusal_of.ensures) (refl, refl) in record { answer = w.0; buffer = w.1 }
+returns-in-Refused c = record { answer = rw (c.in-Refused.is, c.refusal_of.ensures) refl; buffer = rw c.in-Refused.is refl }

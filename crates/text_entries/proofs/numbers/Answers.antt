@@ -24,8 +24,8 @@ loop-i-preserved c =
     let w = c.loop-i.invariant in
     let h = c.loop-i-test.true in
     elim c.if-entries-i.branch [
-    | then-entries-i v ↦ rw (v.list-is, v.count-is, v.put.ensures, v.offset.ensures) (left_here _ _ _ _ _ _ _ w h (v.if-entries-i.true ∙ c.rank.ensures))
-    | else-entries-i v ↦ rw (v.list-is, v.count-is) (left_other _ _ _ _ _ _ _ w h (λ q. v.if-entries-i.false (q ∙ sym c.rank.ensures)))
+      | then-entries-i v ↦ rw (v.list-is, v.count-is, v.store.ensures, v.offset.ensures) (left_here _ _ _ _ _ _ _ w h (v.if-entries-i.true ∙ c.rank.ensures))
+      | else-entries-i v ↦ rw (v.list-is, v.count-is) (left_other _ _ _ _ _ _ _ w h (λ q. v.if-entries-i.false (q ∙ sym c.rank.ensures)))
     ]
 
 pub shape_of-list : goal.shape_of-list

@@ -20,12 +20,21 @@ expand_said-requires c =
 pub returns : goal.returns
 unfolding seed_list_reply
 returns c =
-    let es = entries_in c.args.entries.now in let w = rw (
-      ← c.settings.ensures,
-      ← c.number-specified.ensures,
-      ← c.number-bits.ensures,
-      ← c.number-slices.ensures,
-      ← (few_front 64 (masks_of es) c.requires.masks _ c.numbers-chains.ensures.count _ c.numbers-chains.ensures.list),
-      ← (few_front 2048 (seeds_of es) c.requires.seeds _ c.numbers-count.ensures.count _ c.numbers-count.ensures.list),
-    )
-    c.expand_said.ensures in record { answer = w.0; buffer = w.1 }
+    let es = entries_in c.args.entries.now in record {
+      answer = rw (
+        ← c.settings.ensures,
+        ← c.number-specified.ensures,
+        ← c.number-bits.ensures,
+        ← c.number-slices.ensures,
+        ← (few_front 64 (masks_of es) c.requires.masks _ c.numbers-chains.ensures.count _ c.numbers-chains.ensures.list),
+        ← (few_front 2048 (seeds_of es) c.requires.seeds _ c.numbers-count.ensures.count _ c.numbers-count.ensures.list),
+      ) c.expand_said.ensures.answer;
+      buffer = rw (
+        ← c.settings.ensures,
+        ← c.number-specified.ensures,
+        ← c.number-bits.ensures,
+        ← c.number-slices.ensures,
+        ← (few_front 64 (masks_of es) c.requires.masks _ c.numbers-chains.ensures.count _ c.numbers-chains.ensures.list),
+        ← (few_front 2048 (seeds_of es) c.requires.seeds _ c.numbers-count.ensures.count _ c.numbers-count.ensures.list),
+      ) c.expand_said.ensures.buffer;
+    }

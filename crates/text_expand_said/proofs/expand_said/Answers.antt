@@ -4,4 +4,4 @@ use Rattle.text_expand_said.proofs.expand_said.Goals as goal
 
 pub returns : goal.returns
 unfolding expanded
-returns c = let w = rw (← c.expand_list-written.ensures.answer, ← c.expand_list-written.ensures.buffer) c.reply_slices.ensures in record { answer = w.0; buffer = w.1 }
+returns c = record { answer = rw (← c.expand_list-written.ensures.answer, ← c.expand_list-written.ensures.buffer) c.reply_slices.ensures.answer; buffer = rw (← c.expand_list-written.ensures.answer, ← c.expand_list-written.ensures.buffer) c.reply_slices.ensures.buffer }

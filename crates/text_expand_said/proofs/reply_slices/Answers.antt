@@ -21,8 +21,9 @@ write_slices-lines-requires c =
     (h.0, omega (arith, h.1, length-take c.lesser-count.result c.args.slices.now))
 
 pub returns-in-Count : goal.returns-in-Count
-returns-in-Count c = let w = rw c.in-Count.is (slices_leave _ _ _ _ _ c.lesser-count.ensures _ _ _ c.answered.ensures c.write_slices-lines.ensures.answer c.write_slices-lines.ensures.buffer) in record { answer = w.0; buffer = w.1 }
+returns-in-Count c =
+    let p = slices_leave _ _ _ _ _ c.lesser-count.ensures _ _ _ c.answered.ensures c.write_slices-lines.ensures.answer c.write_slices-lines.ensures.buffer in record { answer = rw c.in-Count.is p.0; buffer = rw c.in-Count.is p.1 }
 
 pub returns-in-Refused : goal.returns-in-Refused
 unfolding slices_reply called
-returns-in-Refused c = let w = rw (c.in-Refused.is, c.refusal_of.ensures) (refl, refl) in record { answer = w.0; buffer = w.1 }
+returns-in-Refused c = record { answer = rw (c.in-Refused.is, c.refusal_of.ensures) refl; buffer = rw c.in-Refused.is refl }

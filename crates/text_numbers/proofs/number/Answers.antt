@@ -6,7 +6,7 @@ use native.Mathlib.Nat.{pow-le-pow_right, le_trans}
 use Rattle.words_bounded.proofs.Tests.{within_yes}
 use Rattle.text_numbers.proofs.Numerals.{zero_leads, no_zero_leads, number-length, number_zero, number_digits}
 use Rattle.text_numbers.proofs.number.Goals as goal
-use Rattle.text_numbers.proofs.number.Goals.{then-value-gt1, else-value-gt1}
+use Rattle.text_numbers.proofs.number.Goals.{then-value-gt1+else-value-eq48, else-value-gt1}
 
 pub returns-then-not-within : goal.returns-then-not-within
 returns-then-not-within c = sym (number-length _ _ _ (sym c.within.ensures ∙ c.if-not-within.true))
@@ -23,4 +23,4 @@ digits-requires c =
 pub returns : goal.returns
 returns c =
     let w = sym c.within.ensures ∙ c.if-not-within.false in
-    c.digits.ensures ∙ sym (number_digits _ _ _ w (no_zero_leads _ (elim c.if-value-gt1.branch [ then-value-gt1 w ↦ inr w.if-value-eq48.false | else-value-gt1 w ↦ inl w.if-value-gt1.false ])))
+    c.digits.ensures ∙ sym (number_digits _ _ _ w (no_zero_leads _ (elim c.if-value-gt1.branch [ then-value-gt1+else-value-eq48 w ↦ inr w.if-value-eq48.false | else-value-gt1 w ↦ inl w.if-value-gt1.false ])))

@@ -14,7 +14,8 @@ pub shape_of-entries-then-text-end : goal.shape_of-entries-then-text-end
 shape_of-entries-then-text-end c = left_long _ _ _ _ _ _ _ _ c.loop-at.invariant
 
 pub returns-then-text-end : goal.returns-then-text-end
-returns-then-text-end c = let w = rw c.refused_at.ensures (left_unended _ _ _ _ _ _ _ _ c.loop-at.invariant _ c.line_end-end.ensures c.loop-at-test.true c.if-text-end.true) in record { answer = w.0; entries = w.1 }
+returns-then-text-end c =
+    let p = left_unended _ _ _ _ _ _ _ _ c.loop-at.invariant _ c.line_end-end.ensures c.loop-at-test.true c.if-text-end.true in record { answer = rw c.refused_at.ensures p.0; entries = p.1 }
 
 pub slice_bounds-saying-count : goal.slice_bounds-saying-count
 slice_bounds-saying-count c = omega arith
@@ -23,7 +24,8 @@ pub shape_of-entries-in_default : goal.shape_of-entries-in_default
 shape_of-entries-in_default c = left_long _ _ _ _ _ _ _ _ c.loop-at.invariant
 
 pub returns-in_default : goal.returns-in_default
-returns-in_default c = let w = rw c.refusal_of_line.ensures (left_refused _ _ _ _ _ _ _ _ c.loop-at.invariant _ c.line_end-end.ensures c.if-text-end.false _ c.saying-line.ensures _ c.in_default.is) in record { answer = w.0; entries = w.1 }
+returns-in_default c =
+    let p = left_refused _ _ _ _ _ _ _ _ c.loop-at.invariant _ c.line_end-end.ensures c.if-text-end.false _ c.saying-line.ensures _ c.in_default.is in record { answer = rw c.refusal_of_line.ensures p.0; entries = p.1 }
 
 pub moved-place-requires : goal.moved-place-requires
 moved-place-requires c = let w = c.loop-at.invariant in omega (arith, c.if-text-end.false, c.line_end-end.ensures, w.lines, w.counted)
@@ -46,4 +48,5 @@ pub shape_of-entries : goal.shape_of-entries
 shape_of-entries c = left_long _ _ _ _ _ _ _ _ c.loop-at.invariant
 
 pub returns : goal.returns
-returns c = let w = rw c.end_of.ensures (left_end _ _ _ _ _ _ _ _ c.loop-at.invariant c.loop-at-test.false) in record { answer = w.0; entries = w.1 }
+returns c =
+    let p = left_end _ _ _ _ _ _ _ _ c.loop-at.invariant c.loop-at-test.false in record { answer = rw c.end_of.ensures p.0; entries = p.1 }

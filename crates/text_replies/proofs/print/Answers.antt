@@ -5,8 +5,11 @@ use Rattle.text_replies.proofs.print.Goals as goal
 
 pub returns-in-Text : goal.returns-in-Text
 unfolding shown
-returns-in-Text c = let w = rw c.in-Text.is (refl, refl) in record { count = w.0; buffer = w.1 }
+returns-in-Text c = record { count = rw c.in-Text.is refl; buffer = rw c.in-Text.is refl }
 
 pub returns-in-Refused : goal.returns-in-Refused
 unfolding shown
-returns-in-Refused c = let w = rw c.in-Refused.is (c.bytes_of.ensures ∙ ap bytes_of c.write_refusal.ensures.answer, c.write_refusal.ensures.buffer) in record { count = w.0; buffer = w.1 }
+returns-in-Refused c = record {
+  count = rw c.in-Refused.is (c.bytes_of.ensures ∙ ap bytes_of c.write_refusal.ensures.answer);
+  buffer = rw c.in-Refused.is c.write_refusal.ensures.buffer;
+}

@@ -15,7 +15,7 @@ loop-kept-preserved c =
     let l = c.loop-kept in
     let o = c.force_rows-kept-in-loop-kept in (
       o.auto.vectors ∙ l.invariant.0,
-      keeps_then (clear a.pattern a.stops.now a.rows) g.result (take g.result.free g.new.vectors) l.auto (take l.auto.free l.vectors) o.result (take o.result.free o.new.vectors) l.invariant.1 o.ensures,
+      keeps_then (clear a.pattern a.stops.now a.rows) g.result (take g.result.free g.new.vectors) l.kept (take l.kept.free l.vectors) o.result (take o.result.free o.new.vectors) l.invariant.1 o.ensures,
     )
 
 pub shape_of-vectors : goal.shape_of-vectors
@@ -26,4 +26,4 @@ returns c =
     let a = c.args in
     let g = c.force_rows-kept in
     let l = c.loop-kept in
-    keeps_then (clear a.pattern a.stops.now a.rows) a.space (take a.space.free a.vectors.now) g.result (take g.result.free g.new.vectors) l.auto (take l.auto.free l.vectors) g.ensures l.invariant.1
+    keeps_then (clear a.pattern a.stops.now a.rows) a.space (take a.space.free a.vectors.now) g.result (take g.result.free g.new.vectors) l.kept (take l.kept.free l.vectors) g.ensures l.invariant.1

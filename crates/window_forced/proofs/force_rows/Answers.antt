@@ -25,14 +25,14 @@ returns-then-not-kept c =
     let a = c.args in
     let l = c.loop-row in
     let o = c.force_row-kept in
-    keeps_next a.pattern a.stops.now a.rows l.row a.space (take a.space.free a.vectors.now) l.kept l.vectors o.result o.new.vectors c.loop-row-test.true l.invariant.2 o.ensures
+    keeps_next a.pattern a.stops.now a.rows l.row a.space (take a.space.free a.vectors.now) l.kept l.vectors o.result o.new.vectors c.loop-row-test.true l.invariant.2 (o.ensures.answer, o.ensures.buffer)
 
 pub loop-row-preserved : goal.loop-row-preserved
 loop-row-preserved c =
     let a = c.args in
     let l = c.loop-row in
     let o = c.force_row-kept in
-    (omega (arith, c.loop-row-test.true), o.auto.vectors ∙ l.invariant.1, keeps_next a.pattern a.stops.now a.rows l.row a.space (take a.space.free a.vectors.now) l.kept l.vectors o.result o.new.vectors c.loop-row-test.true l.invariant.2 o.ensures)
+    (omega (arith, c.loop-row-test.true), o.auto.vectors ∙ l.invariant.1, keeps_next a.pattern a.stops.now a.rows l.row a.space (take a.space.free a.vectors.now) l.kept l.vectors o.result o.new.vectors c.loop-row-test.true l.invariant.2 (o.ensures.answer, o.ensures.buffer))
 
 pub shape_of-vectors : goal.shape_of-vectors
 shape_of-vectors c = c.loop-row.invariant.1

@@ -53,13 +53,13 @@ loop-slice-preserved c =
     let m = c.meet_row-kept in
     let w = paired a.specified.now a.bits.now in
     let f = fitted_next a.chains a.table.now a.specified.now a.bits.now c.requires.slices (all_states a.cells) (units_of a.cells) l.slice l.kept (take l.kept.free l.vectors) m.result (take m.result.free m.new.vectors) c.loop-slice-test.true l.invariant.3.fitted m.ensures in
-    let e = c.if-not-kept.false in (
+    let e = not-false m.result.some c.if-not-kept.false in (
       omega arith,
       m.auto.vectors ∙ l.invariant.1,
       l.invariant.2,
       elim c.if-slice-places.branch [
-          | then-slice-places v ↦ rw v.spaces-is (growing_next a.chains a.table.now w a.cells (length a.spaces.now) l.slice l.kept (take l.kept.free l.vectors) l.spaces l.invariant.3 m.result (take m.result.free m.new.vectors) f e v.store.new.spaces v.store.auto.spaces v.store.ensures.0 v.store.ensures.1)
-          | else-slice-places v ↦ rw v.spaces-is (growing_beyond a.chains a.table.now w a.cells (length a.spaces.now) l.slice l.kept (take l.kept.free l.vectors) l.spaces l.invariant.3 m.result (take m.result.free m.new.vectors) f e (omega (arith, v.if-slice-places.false)))
+        | then-slice-places v ↦ rw v.spaces-is (growing_next a.chains a.table.now w a.cells (length a.spaces.now) l.slice l.kept (take l.kept.free l.vectors) l.spaces l.invariant.3 m.result (take m.result.free m.new.vectors) f e v.store.new.spaces v.store.auto.spaces v.store.ensures.before v.store.ensures.space)
+        | else-slice-places v ↦ rw v.spaces-is (growing_beyond a.chains a.table.now w a.cells (length a.spaces.now) l.slice l.kept (take l.kept.free l.vectors) l.spaces l.invariant.3 m.result (take m.result.free m.new.vectors) f e (omega (arith, v.if-slice-places.false)))
       ],
     )
 

@@ -40,10 +40,14 @@ length_seed-found-requires c =
     let a = c.args in
     let l = c.loop-slices in
     let h : l.slices ≤ length a.specified.now = omega (arith, l.invariant.1.within, slices_length (length a.masks.now) a.specified.now a.bits.now c.requires.slices) in
-    let n = length-take-le l.slices a.specified.now h in record { ready = tables_fewer a.sought.settings a.masks.now a.sought.stop a.sought.pattern a.table.now a.stops.now (suc (length (take l.slices a.specified.now))) (suc (length a.specified.now)) (omega arith) c.requires.ready; slices = slices_take (length a.masks.now) l.slices a.specified.now a.bits.now c.requires.slices; held = (
-          omega arith,
-          λ q. held_part (length a.masks.now) a.table.now a.specified.now a.bits.now a.sought.settings.cells a.spaces.now l.slices h (c.requires.grown.held l.slices (omega arith) l.invariant.0 (omega arith)),
-        ) }
+    let n = length-take-le l.slices a.specified.now h in record {
+      ready = tables_fewer a.sought.settings a.masks.now a.sought.stop a.sought.pattern a.table.now a.stops.now (suc (length (take l.slices a.specified.now))) (suc (length a.specified.now)) (omega arith) c.requires.ready;
+      slices = slices_take (length a.masks.now) l.slices a.specified.now a.bits.now c.requires.slices;
+      held = (
+        omega arith,
+        λ q. held_part (length a.masks.now) a.table.now a.specified.now a.bits.now a.sought.settings.cells a.spaces.now l.slices h (c.requires.grown.held l.slices (omega arith) l.invariant.0 (omega arith)),
+      );
+    }
 
 pub returns-in-State : goal.returns-in-State
 returns-in-State c =

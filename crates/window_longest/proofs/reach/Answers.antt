@@ -10,10 +10,14 @@ use Rattle.window_longest.proofs.reach.Goals as goal
 
 pub most_quiet-quiet-requires : goal.most_quiet-quiet-requires
 most_quiet-quiet-requires c =
-    let a = c.args in record { slices = c.requires.bits_value; table = omega (arith, suc-mul (length a.specified.now) (length a.masks.now), c.requires.tables_for.table.long); stops = (
-          (cells_within a.sought.settings.cells a.sought.settings.taps c.requires.tables_for.register).1,
-          stop-rows a.sought.settings a.masks.now a.sought.stop a.sought.pattern a.table.now a.stops.now (length a.specified.now) c.requires.tables_for,
-        ) }
+    let a = c.args in record {
+      slices = c.requires.bits_value;
+      table = omega (arith, suc-mul (length a.specified.now) (length a.masks.now), c.requires.tables_for.table.long);
+      stops = (
+        (cells_within a.sought.settings.cells a.sought.settings.taps c.requires.tables_for.register).1,
+        stop-rows a.sought.settings a.masks.now a.sought.stop a.sought.pattern a.table.now a.stops.now (length a.specified.now) c.requires.tables_for,
+      );
+    }
 
 pub slice_bounds-reach_with-end : goal.slice_bounds-reach_with-end
 slice_bounds-reach_with-end c = sym (length-replicate {A = ℕ} _ 0)

@@ -46,7 +46,7 @@ returns-then-not-kept c =
     let m = c.meet_row-kept in
     let o = c.force_row-kept in
     let lt = c.loop-slice-test.true in
-    let q = quiet_next a.chains a.table.now a.pattern a.stops.now a.specified.now a.bits.now c.requires.slices a.cells l.slice l.auto (take l.auto.free l.vectors) m.result m.new.vectors o.result o.new.vectors lt l.invariant.2 m.ensures o.ensures in
+    let q = quiet_next a.chains a.table.now a.pattern a.stops.now a.specified.now a.bits.now c.requires.slices a.cells l.slice l.kept (take l.kept.free l.vectors) m.result m.new.vectors o.result o.new.vectors lt l.invariant.2 m.ensures (o.ensures.answer, o.ensures.buffer) in
     quiet-stop a.chains a.table.now a.pattern a.stops.now a.specified.now a.bits.now c.requires.slices a.cells l.slice o.result (take o.result.free o.new.vectors) lt q (not-true o.result.some c.if-not-kept.true)
 
 pub overflow_add-slice : goal.overflow_add-slice
@@ -59,7 +59,7 @@ loop-slice-preserved c =
     let m = c.meet_row-kept in
     let o = c.force_row-kept in
     let lt = c.loop-slice-test.true in
-    let q = quiet_next a.chains a.table.now a.pattern a.stops.now a.specified.now a.bits.now c.requires.slices a.cells l.slice l.auto (take l.auto.free l.vectors) m.result m.new.vectors o.result o.new.vectors lt l.invariant.2 m.ensures o.ensures in
+    let q = quiet_next a.chains a.table.now a.pattern a.stops.now a.specified.now a.bits.now c.requires.slices a.cells l.slice l.kept (take l.kept.free l.vectors) m.result m.new.vectors o.result o.new.vectors lt l.invariant.2 m.ensures (o.ensures.answer, o.ensures.buffer) in
     (omega (arith, lt), o.auto.vectors ∙ m.auto.vectors ∙ l.invariant.1, q)
 
 pub returns : goal.returns

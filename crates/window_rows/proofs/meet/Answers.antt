@@ -41,12 +41,12 @@ loop-left-preserved c =
     let us = take a.space.free a.vectors.now in
     let h = left_chain (length row) l.chain l.left l.invariant.0 c.loop-left-test.true in (
       left-half (length row) l.chain l.left l.invariant.0 h,
-      elim c.if-left-eq1.branch [ then-left-eq1 w ↦ rw w.vectors-is w.restrict.auto.vectors ∙ l.invariant.1 | else-left-eq1 w ↦ rw w.vectors-is l.invariant.1 ],
+      elim c.if-left-eq1.branch [ then-left-eq1 w ↦ rw w.vectors-is w.restrict-kept.auto.vectors ∙ l.invariant.1 | else-left-eq1 w ↦ rw w.vectors-is l.invariant.1 ],
       elim c.if-left-eq1.branch [
-          | then-left-eq1 w ↦
-          let e = restricted-left (get_or row l.chain 0) (l.values % 2) (take l.kept.free l.vectors) l.kept w.restrict.result w.restrict.new.vectors _ w.restrict.ensures.answer w.restrict.ensures.buffer in
-          rw (w.vectors-is, w.kept-is, e, w.restrict.ensures.answer) (meet-take row Q a.space us l.chain l.left l.values l.kept (take l.kept.free l.vectors) h w.if-left-eq1.true l.invariant.2)
-          | else-left-eq1 w ↦ rw (w.vectors-is, w.kept-is) (meet_skip row Q a.space us l.chain l.left l.values l.kept (take l.kept.free l.vectors) h w.if-left-eq1.false l.invariant.2)
+        | then-left-eq1 w ↦
+            let e = restricted-left (get_or row l.chain 0) (l.values % 2) (take l.kept.free l.vectors) l.kept w.restrict-kept.result w.restrict-kept.new.vectors _ w.restrict-kept.ensures.answer w.restrict-kept.ensures.buffer in
+            rw (w.vectors-is, w.kept-is, e, w.restrict-kept.ensures.answer) (meet-take row Q a.space us l.chain l.left l.values l.kept (take l.kept.free l.vectors) h w.if-left-eq1.true l.invariant.2)
+        | else-left-eq1 w ↦ rw (w.vectors-is, w.kept-is) (meet_skip row Q a.space us l.chain l.left l.values l.kept (take l.kept.free l.vectors) h w.if-left-eq1.false l.invariant.2)
       ],
     )
 

@@ -1,0 +1,2 @@
+-- The law of what a program does, and the proofs of the functions.
+pub mod Answered

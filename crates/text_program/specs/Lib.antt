@@ -1,0 +1,2 @@
+-- What a program does between its input and its output.
+pub mod Answered
