@@ -49,6 +49,8 @@ fn weigh(best: Best, stop: TestSlice, choice: usize, specified: &[u64], bits: &[
 }
 
 // The choice of a step: the greatest count, on a tie the leftmost position, and there the 0s before the 1s.
+// Not inlined: the caller's frame would be larger than the stack that c/seeds.h promises for a stop slice.
+#[inline(never)]
 fn choose(chains: usize, stop: TestSlice, specified: &[u64], bits: &[u64]) -> Best
     requires chains { chains ≤ 64 }
     requires stop { BitsSpecified stop }
