@@ -22,7 +22,8 @@ fn reply(list: &[u8], out: &mut [u8]) -> usize
     text_program::reply(Kind::SeedList, list, out)
 }
 
-// Reads a seed list in full and writes what is printed for it, until the writer takes no more.
+// Reads a seed list and writes what is printed for it. What the writer gets is the beginning of what is printed for the text that came from the reader;
+// that the text is read and the answer written to the end is not promised, since a read and a write can fail.
 fn run<R: Read, W: Write>(reader: &mut R, writer: &mut W)
     ensures { IsAnswered expand_text (R.remaining reader.old) (R.remaining reader.new) (W.contents writer.old) (W.contents writer.new) }
 {

@@ -34,7 +34,7 @@ use Rattle.face_checks.specs.Verdicts.{number_of}
 use Rattle.face_numbers.specs.Stop.{stop_answer_of}
 use Rattle.face_answers.specs.Answers.{answer_of, seed_answer_of, cubes_answer_of, text_answer_of}
 use Rattle.face_numbers.specs.States.{state_answer, slice_answer, register_test, chains_test, state_test, step_call, slice_call}
-use Rattle.face_numbered.specs.Numbered.{Numbered, Call, seeds-step, seeds-slice, seeds_check_window, seeds_check_set, seeds_check_cubes, seeds_check_stop, seeds_check_list, seeds-stop, seeds-expand, seeds_window, seeds-encode-set, seeds-encode_cubes, seeds-encode_text, seeds-expand_text, number_in}
+use Rattle.face_numbered.specs.Numbered.{Numbered, Call, seeds_step, seeds_slice, seeds_check_window, seeds_check_set, seeds_check_cubes, seeds_check_stop, seeds_check_list, seeds_stop, seeds_expand, seeds_window, seeds_encode_set, seeds_encode_cubes, seeds_encode_text, seeds_expand_text, number_in}
 
 check_numbered : (v : Verdict) → Numbered (number_of v)
 check_numbered verdict.WellFormed = inl refl
@@ -81,17 +81,17 @@ slice-numbered (verdict.Refused c) s = inr (on_sheet c)
 -- Each by what its call hands over.
 pub every-numbered : (c : Call) → Numbered (number_in c)
 unfolding step_call slice_call
-every-numbered (seeds-step g s) = state_numbered (first_of (register_test g ∷ state_test g.cells s ∷ [])) _
-every-numbered (seeds-slice g masks s) = slice-numbered (first_of (register_test g ∷ chains_test g masks ∷ state_test g.cells s ∷ [])) _
+every-numbered (seeds_step g s) = state_numbered (first_of (register_test g ∷ state_test g.cells s ∷ [])) _
+every-numbered (seeds_slice g masks s) = slice-numbered (first_of (register_test g ∷ chains_test g masks ∷ state_test g.cells s ∷ [])) _
 every-numbered (seeds_check_window g masks stop specified bits) = check_numbered (judged (window_faults g masks stop specified bits))
 every-numbered (seeds_check_set g masks stop specified bits) = check_numbered (judged (set_faults g masks stop specified bits))
 every-numbered (seeds_check_cubes g masks depth specified bits) = check_numbered (judged (cubes_faults g masks depth specified bits))
 every-numbered (seeds_check_stop chains specified bits) = check_numbered (judged (stop_faults chains specified bits))
 every-numbered (seeds_check_list g masks stop slices seeds) = check_numbered (judged (list_faults g masks stop slices seeds))
-every-numbered (seeds-stop chains specified bits) = stop-numbered (stop_of chains specified bits)
-every-numbered (seeds-expand g masks stop slices seeds out) = answer-numbered (expand_list g masks stop slices seeds out).answer
+every-numbered (seeds_stop chains specified bits) = stop-numbered (stop_of chains specified bits)
+every-numbered (seeds_expand g masks stop slices seeds out) = answer-numbered (expand_list g masks stop slices seeds out).answer
 every-numbered (seeds_window g masks stop specified bits) = seed-numbered (window_seed g masks stop specified bits)
-every-numbered (seeds-encode-set g masks stop specified bits out) = answer-numbered (encode_set g masks stop specified bits out).answer
-every-numbered (seeds-encode_cubes g masks depth specified bits out) = cubes_numbered (encode_cubes g masks depth specified bits out).answer
-every-numbered (seeds-encode_text sheet out) = text_numbered Sheet sheet out
-every-numbered (seeds-expand_text list out) = text_numbered SeedList list out
+every-numbered (seeds_encode_set g masks stop specified bits out) = answer-numbered (encode_set g masks stop specified bits out).answer
+every-numbered (seeds_encode_cubes g masks depth specified bits out) = cubes_numbered (encode_cubes g masks depth specified bits out).answer
+every-numbered (seeds_encode_text sheet out) = text_numbered Sheet sheet out
+every-numbered (seeds_expand_text list out) = text_numbered SeedList list out
