@@ -95,19 +95,15 @@ fn definitions(root: &Path) -> io::Result<(String, Vec<String>)> {
 }
 
 const HEADER: &str = "-- Answers of the second program on random inputs, against the definitions.
-use Rattle.std.specs.Prelude.{◌≡◌, refl, List, [], ◌∷◌, ℕ}
+use Rattle.std.specs.Prelude.{◌≡◌, refl, List, [], ◌∷◌, ℕ, Result, Ok, Err}
 use Rattle.std.specs.Int.Count.{ones, ones_in}
 use Rattle.refusal_causes.specs.declared.Cause.TheVariants as cause
-use Rattle.refusal_causes.specs.declared.Written.TheVariants as written
+use Rattle.refusal_causes.specs.declared.Cause.{Cause}
 use Rattle.refusal_causes.specs.Outcome.{Outcome}
 use Rattle.machine_settings.specs.Machine.{base, machine}
 use Rattle.machine_slices.specs.declared.TestSlice.{TestSlice}
-use Rattle.encoder_meaning.specs.declared.Encoded.TheVariants as encoded_cubes
+use Rattle.encoder_meaning.specs.Encoding.{seeds_with}
 use Rattle.encoder_cubes.specs.Cubes.{CubesOutcome}
-use Rattle.stop_slice.specs.declared.Formed.{Formed}
-use Rattle.stop_slice.specs.declared.Formed.TheVariants as formed
-use Rattle.theory_covering.specs.declared.Seed.{Seed}
-use Rattle.theory_covering.specs.declared.Seed.TheVariants as seed
 use Rattle.text_keys.specs.Bytes.{bytes}
 use Rattle.text_calls.specs.Texts.{encode_text, expand_text}
 ";

@@ -2,26 +2,13 @@
 #![tactic(auto)]
 
 ghost use Rattle.std.specs.Prelude.{◌≡◌};
-ghost use Rattle.encoder_cubes.specs.Cubes.{cubes_encoding, encode_cubes, stopped};
+ghost use Rattle.encoder_cubes.specs.Cubes.{cubes_encoding, encode_cubes};
 ghost use Rattle.encoder_cubes.specs.Formed.{CubesFormed};
 ghost use Rattle.encoder_cubes.specs.Meaning.{CubesMeaning};
 
 use encoder_meaning::Encoded;
 use machine_settings::Settings;
-use machine_slices::TestSlice;
-use refusal_causes::{Cause, Written};
-use refusal_order::Verdict;
-use stop_slice::Formed;
-
-// The answer with the stop slice.
-fn with_stop(stop: TestSlice, written: Written) -> Encoded
-    ensures { result ≡ stopped stop written }
-{
-    match written {
-        Written::Count(seeds) => Encoded::Seeds(stop, seeds),
-        Written::Refused(cause) => Encoded::Refused(cause),
-    }
-}
+use refusal_causes::Cause;
 
 // The encoding of cubes that are well-formed: their stop slice, then as for a set.
 fn encode_formed(
@@ -30,19 +17,14 @@ fn encode_formed(
     specified: &[u64],
     bits: &[u64],
     out: &mut [u64],
-) -> Encoded
+) -> Result<Encoded, Cause>
     requires { CubesFormed settings masks.now specified.now bits.now }
     ensures answer { result ≡ (cubes_encoding settings masks.now specified.now bits.now out.old).answer }
     ensures buffer { out.new ≡ (cubes_encoding settings masks.now specified.now bits.now out.old).buffer }
 {
-    let formed = stop_slice::stop_slice(masks.len(), specified, bits);
-    match formed {
-        Formed::Refused(cause) => Encoded::Refused(cause),
-        Formed::Stop(stop) => with_stop(
-            stop,
-            encoder_sets::encode(settings, masks, stop, specified, bits, out),
-        ),
-    }
+    let stop = stop_slice::stop_slice(masks.len(), specified, bits)?;
+    let seeds = encoder_sets::encode(settings, masks, stop, specified, bits, out)?;
+    Ok(Encoded { stop, seeds })
 }
 
 // The encoding of cubes of so many slices each: their stop slice and how many seeds were written into the buffer, or the first of causes 1 to 4 that holds, then 6, then 8, then 9.
@@ -53,14 +35,11 @@ pub fn encode_cubes(
     specified: &[u64],
     bits: &[u64],
     out: &mut [u64],
-) -> Encoded
+) -> Result<Encoded, Cause>
     ensures answer { result ≡ (encode_cubes settings masks.now depth specified.now bits.now out.old).answer }
     ensures buffer { out.new ≡ (encode_cubes settings masks.now depth specified.now bits.now out.old).buffer }
     ensures meaning { CubesMeaning settings masks.now depth specified.now bits.now out.old (record { answer = result; buffer = out.new }) }
 {
-    let verdict = refusal_checks::check_cubes(settings, masks, depth, specified, bits);
-    match verdict {
-        Verdict::Refused(cause) => Encoded::Refused(cause),
-        Verdict::WellFormed => encode_formed(settings, masks, specified, bits, out),
-    }
+    refusal_checks::check_cubes(settings, masks, depth, specified, bits)?;
+    encode_formed(settings, masks, specified, bits, out)
 }

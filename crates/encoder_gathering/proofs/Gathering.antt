@@ -3,8 +3,8 @@
 --     gathering_start, gathering_next     at the start, and after a window
 --     gathering_answer    what the loop answers where no window leads on
 -- Assumes nothing.
+use Rattle.std.specs.Prelude.{unwrap_or}
 use mathlib.Core.Path.{◌≡◌, refl, sym, ap, ap₂, ◌∙◌}
-use mathlib.Core.Option.{get_or}
 use mathlib.Core.List.{List, [], ◌∷◌}
 use Prim.Native.Nat.{ℕ, suc, ◌+◌, ◌-◌, ◌≤◌, ◌<◌}
 use native.Mathlib.Numerals.{add-one}
@@ -55,7 +55,7 @@ module _ (M : Machine) (R : Rules) (set : List TestSlice) (old : List ℕ) (earl
     fuel : left count ≡ suc (left (count + 1))
     fuel = omega (arith, f.before, f.added)
 
-    pub gathering_next : (k s : ℕ) → 0 < k → reach (ok M R set) n place ≡ place + k → place + k ≤ n → s ≡ get_or (seed_at M R set place (place + k)) 0
+    pub gathering_next : (k s : ℕ) → 0 < k → reach (ok M R set) n place ≡ place + k → place + k ≤ n → s ≡ unwrap_or (seed_at M R set place (place + k)) 0
         → Gathering (place + k) (count + 1) (put out count s)
     unfolding hop seeds_of
     gathering_next k s p e l q =

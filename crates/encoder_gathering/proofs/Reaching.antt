@@ -1,13 +1,14 @@
 -- The longest window from a start of a set is the greedy one, for every rule.
 --     part_length     how long the part is that a window may take
 --     seed-same       the seed of its first slices is that of the window in the set
---     Reaches         what the search for the longest window says of the set
+--     Reaches         what the longest window says of the set
+--     ReachesOr       what the search for it says, by its answer
 --     reaches         it says so
 -- Assumes nothing.
+use Rattle.std.specs.Prelude.{None, Option, Some, unwrap_or}
 use mathlib.Core.Path.{◌≡◌, sym, ap, ap₂, ◌∙◌}
 use mathlib.Core.Logic.{⊎_elim}
 use mathlib.Core.Bool.{Bool, true, false, ◌&&◌, and-false, or-true, or-false}
-use mathlib.Core.Option.{Option, none, some, get_or}
 use mathlib.Core.List.{List}
 use Prim.Native.Nat.{ℕ, suc, ◌+◌, ◌-◌, ◌≤◌, ◌<◌}
 use native.Mathlib.Omega.{arith}
@@ -81,39 +82,41 @@ module _ (M : Machine) (R : Rules) (set : List TestSlice) (a : ℕ) where
       )
 
   pub record Reaches (r : Window) : Type 0 where
+    pub some : 0 < r.slices
     pub end : reach (ok M R set) n a ≡ a + r.slices
     pub within : a + r.slices ≤ n
-    pub seed : 0 < r.slices → r.seed ≡ get_or (seed_at M R set a (a + r.slices)) 0
+    pub seed : r.seed ≡ unwrap_or (seed_at M R set a (a + r.slices)) 0
 
-  pub reaches : a ≤ n → Reaches (reach_of M (R.live a) last w)
+  abbrev pub ReachesOr : Option Window → Type 0
+  ReachesOr None = reach (ok M R set) n a ≡ a
+  ReachesOr (Some r) = Reaches r
+
+  pub reaches : a ≤ n → ReachesOr (reach_of M (R.live a) last w)
   unfolding reach_of longest reach ok
   reaches start = go (last_below test (suc (length w))) (last_is test (suc (length w)))
     where
-      nothing : LastIs test (suc (length w)) none → last_below (ok M R set a) (suc n) ≡ none
+      nothing : LastIs test (suc (length w)) None → last_below (ok M R set a) (suc n) ≡ None
       nothing all = last_none (ok M R set a) (suc n) (λ j h. fails (ok M R set a j) (λ t.
           let p = passes j t in
           let le = p.1 in
           clash (test (j - a)) p.2 (all (j - a) (omega (arith, part_length)))))
 
       go : (o : Option ℕ) → LastIs test (suc (length w)) o
-          → Reaches (elim o [ none ↦ record { slices = 0; seed = 0 } | some k ↦ record { slices = k; seed = get_or (seed_for M (R.live a) last w k) 0 } ])
-      go none all = record {
-        end = rw (nothing all) (omega arith);
-        within = omega arith;
-        seed = λ h. absurd (omega arith);
-      }
-      go (some k) l =
+          → ReachesOr (elim o [ None ↦ None | Some k ↦ Some (record { slices = k; seed = unwrap_or (seed_for M (R.live a) last w k) 0 }) ])
+      go None all = rw (nothing all)
+      go (Some k) l =
           let t = both (ltb 0 k) (found (seed_for M (R.live a) last w k)) l.passes in
           let p = ltb-true 0 k t.0 in
           let h : k ≤ e - a = omega (arith, l.below, part_length) in
           let le = (far_le R n a).0 in
           let is : ok M R set a (a + k) ≡ true = and_yes (placed R n a (a + k)) (found (seed_at M R set a (a + k))) (parts-placed R n a (a + k) (omega arith) (omega arith)) (ap found (sym (seed-same k p h)) ∙ t.1) in
           record {
+            some = p;
             end = rw (last_of (ok M R set a) (suc n) (a + k) (omega arith) is (λ j lt b. fails (ok M R set a j) (λ u.
                 let q = passes j u in
                 let jl = q.1 in
                 let g = l.greatest (j - a) (omega (arith, part_length)) q.2 in
                 omega arith)));
             within = omega arith;
-            seed = λ z. ap (λ (o : Option ℕ). get_or o 0) (seed-same k p h);
+            seed = ap (λ (o : Option ℕ). unwrap_or o 0) (seed-same k p h);
           }

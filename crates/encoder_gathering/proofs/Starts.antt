@@ -3,6 +3,7 @@
 --     part_slices     its slices are well-formed
 --     part_window     the longest window of the part is the greedy one
 -- Assumes nothing.
+use Rattle.std.specs.Prelude.{Option}
 use mathlib.Core.Path.{◌≡◌, sym, ap, ◌∙◌}
 use mathlib.Core.Bool.{Bool, false, ◌||◌}
 use mathlib.Core.List.{List}
@@ -21,7 +22,7 @@ use Rattle.theory_covering.specs.Windows.{part, far, closes}
 use Rattle.theory_covering.proofs.Places.{far_segment, segment_closes}
 use Rattle.window_lengths.specs.Longest.{reach_of}
 use Rattle.window_lengths.specs.declared.Window.{Window}
-use Rattle.encoder_gathering.proofs.Reaching.{Reaches, reaches}
+use Rattle.encoder_gathering.proofs.Reaching.{ReachesOr, reaches}
 
 module _ (g : Settings) (masks : List ℕ) (stop : TestSlice) (closing : Bool) (ps bs : List ℕ) (b : bad_slices (length masks) ps bs ≡ false) where
   abbrev M : Machine
@@ -52,7 +53,7 @@ module _ (g : Settings) (masks : List ℕ) (stop : TestSlice) (closing : Bool) (
         ∙ ap (take (e - a)) (paired-drop a ps bs (slices_equal (length masks) ps bs b))
         ∙ ap (λ (k : ℕ). take (k - a) (drop a set)) (end ∙ ap (λ (n : ℕ). far R n a) (sym long))
 
-    pub part_window : (c : Bool) → c ≡ (closing || ltb e (length ps)) → (r : Window) → r ≡ reach_of M stop c (paired (take (e - a) (drop a ps)) (take (e - a) (drop a bs))) → Reaches M R set a r
+    pub part_window : (c : Bool) → c ≡ (closing || ltb e (length ps)) → (r : Option Window) → r ≡ reach_of M stop c (paired (take (e - a) (drop a ps)) (take (e - a) (drop a bs))) → ReachesOr M R set a r
     part_window c s r q =
         let l : c ≡ closes R (length set) (far R (length set) a) = s ∙ sym (segment_closes g stop closing (length ps) e part_bounds.1) ∙ rw (long, end) in
         rw (q, same_part, l) (reaches M R set a (omega (arith, long)))

@@ -21,7 +21,7 @@ fn far(settings: Settings, slices: usize, start: usize) -> usize
     requires { (settings.limit ≤ most_limit) × (start ≤ 2048) }
     ensures { (stop : TestSlice) (closing : Bool) → result ≡ far_of (segment_rules settings stop closing) slices start }
 {
-    words_bounded::lesser(slices, start + settings.limit)
+    slices.min(start + settings.limit)
 }
 
 // The seeds of a segment's windows, behind the earlier ones: each window is the longest from where the one before ends, until the end of the slices or a start from which none leads on.
@@ -44,32 +44,24 @@ pub fn gather(
     ensures answer { result ≡ gathered (machine sought.settings masks.now) (segment_rules sought.settings sought.stop sought.closing) (paired specified.now bits.now) earlier }
     ensures buffer { seeds.new ≡ sets seeds.old earlier.count (gathered_seeds (machine sought.settings masks.now) (segment_rules sought.settings sought.stop sought.closing) (paired specified.now bits.now) earlier.place) }
 {
-    let settings = sought.settings;
-    let stop = sought.stop;
-    let pattern = sought.pattern;
     let slices = specified.len();
     let mut place = earlier.place;
     let mut count = earlier.count;
+    // Not a `for`: it moves by the length of the window that was found.
     while place < slices {
-        let end = far(settings, slices, place);
+        let end = far(sought.settings, slices, place);
         let closing = sought.closing || end < slices;
-        let part = Sought {
-            settings,
-            stop,
-            pattern,
-            closing,
-        };
-        let longest = window_longest::reach(
+        let part = Sought { closing, ..sought };
+        let Some(longest) = window_longest::reach(
             part,
             masks,
             table,
             stops,
             &specified[place..end],
             &bits[place..end],
-        );
-        if longest.slices == 0 {
+        ) else {
             return Gathered { place, count };
-        }
+        };
         seeds[count] = longest.seed;
         count += 1;
         place += longest.slices;

@@ -2,9 +2,9 @@
 --     encoding-upright      the encoding of a set, over two lists of numbers
 --     inverted_encoding     the whole call
 -- Assumes nothing.
+use Rattle.std.specs.Prelude.{Option, unwrap_or}
 use mathlib.Core.Path.{◌≡◌, refl, sym, ap, ap₂, fun_ext, ◌∙◌}
 use mathlib.Core.Bool.{Bool}
-use mathlib.Core.Option.{Option, get_or}
 use mathlib.Core.List.{List, [], ◌∷◌, map}
 use Prim.Native.Nat.{ℕ}
 use lib.ListN.{length, length-map}
@@ -31,7 +31,7 @@ module _ (M N : Machine) (R Q : Rules) (set other : List TestSlice) (seeds : (i 
   seeds-same : (a : ℕ) (es : List ℕ) → seeds_of M R set a es ≡ seeds_of N Q other a es
   unfolding seeds_of
   seeds-same a [] = refl
-  seeds-same a (k ∷ es) = ap₂ (λ (o : Option ℕ) (l : List ℕ). get_or o 0 ∷ l) (seeds a k) (seeds-same k es)
+  seeds-same a (k ∷ es) = ap₂ (λ (o : Option ℕ) (l : List ℕ). unwrap_or o 0 ∷ l) (seeds a k) (seeds-same k es)
 
   planned-same : (out : List ℕ) (p : Plan) → planned M R set out p ≡ planned N Q other out p
   unfolding planned

@@ -4,9 +4,9 @@
 --     seeds-length       there is one for each window
 --     cuts_windows, windows_cuts, covering_cuts     between the two kinds of cuttings
 -- Assumes nothing.
+use Rattle.std.specs.Prelude.{unwrap_or}
 use mathlib.Core.Path.{◌≡◌, refl, ap}
 use mathlib.Core.Bool.{true}
-use mathlib.Core.Option.{get_or}
 use mathlib.Core.List.{List, [], ◌∷◌}
 use Prim.Native.Nat.{ℕ, suc}
 use lib.ListN.{length}
@@ -23,7 +23,7 @@ use Rattle.theory_covering.proofs.Windows.{ok_window, window_ok}
 use Rattle.encoder_meaning.specs.Encoding.{seeds_of}
 
 module _ (M : Machine) (R : Rules) (set : List TestSlice) where
-  seed-covers : (i k : ℕ) → ok M R set i k ≡ true → CoveredBy M R set i k (get_or (seed_at M R set i k) 0)
+  seed-covers : (i k : ℕ) → ok M R set i k ≡ true → CoveredBy M R set i k (unwrap_or (seed_at M R set i k) 0)
   unfolding ok seed_at covers_part
   seed-covers i k t =
       let a = both (placed R (length set) i k) (found (seed_at M R set i k)) t in

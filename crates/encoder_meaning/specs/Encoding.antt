@@ -3,8 +3,9 @@
 --     planned M R set out p       the outcome of a plan: the seeds of its windows, cause 8 with the place where it is stuck, or cause 9
 --     encoding M R set out        the answer and the buffer that the encoding of a set leaves, by its greedy cutting
 --     encode_set g masks stop specified bits out     the same of the whole call
-use Rattle.std.proofs.Math.Option.{get_or}
-use Rattle.std.specs.Prelude.{List, [], ◌∷◌, ℕ, length}
+--     seeds_with stop n           the accepted answer of the encoding of cubes: the stop slice, and how many seeds there are
+use Rattle.std.specs.Prelude.{List, [], ◌∷◌, ℕ, length, Err, Ok, Result, unwrap_or}
+use Rattle.refusal_causes.specs.declared.Cause.{Cause}
 use Rattle.refusal_causes.specs.Outcome.{Outcome, refuse, fill}
 use Rattle.machine_settings.specs.declared.Settings.{Settings}
 use Rattle.machine_settings.specs.Machine.{Machine, machine}
@@ -16,11 +17,11 @@ use Rattle.theory_cutting.specs.Greedy.{Plan, done, stuck, greedy}
 use Rattle.theory_covering.specs.Rules.{Rules, rules}
 use Rattle.theory_covering.specs.Windows.{seed_at, ok}
 use Rattle.refusal_causes.specs.declared.Cause.TheVariants as cause
-use Rattle.refusal_order.specs.declared.Verdict.TheVariants as verdict
+use Rattle.encoder_meaning.specs.declared.Encoded.{Encoded}
 
 unfoldable pub seeds_of : Machine → Rules → List TestSlice → ℕ → List ℕ → List ℕ
 seeds_of M R set a [] = []
-seeds_of M R set a (k ∷ es) = get_or (seed_at M R set a k) 0 ∷ seeds_of M R set k es
+seeds_of M R set a (k ∷ es) = unwrap_or (seed_at M R set a k) 0 ∷ seeds_of M R set k es
 
 unfoldable pub planned : Machine → Rules → List TestSlice → List ℕ → Plan → Outcome
 planned M R set out (stuck g) = refuse (cause.NoCutting g) out
@@ -31,6 +32,9 @@ encoding M R set out = planned M R set out (greedy (ok M R set) (length set))
 
 unfoldable pub encode_set : Settings → List ℕ → TestSlice → List ℕ → List ℕ → List ℕ → Outcome
 encode_set g masks stop specified bits out = elim (judged (set_faults g masks stop specified bits)) [
-  | verdict.Refused c ↦ refuse c out
-  | verdict.WellFormed ↦ encoding (machine g masks) (rules g stop) (paired specified bits) out
+  | Err c ↦ refuse c out
+  | (Ok tt) ↦ encoding (machine g masks) (rules g stop) (paired specified bits) out
 ]
+
+abbrev pub seeds_with : TestSlice → ℕ → Result Encoded Cause
+seeds_with stop n = Ok (record { stop = stop; seeds = n })

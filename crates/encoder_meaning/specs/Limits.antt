@@ -6,9 +6,8 @@
 --     Larger g limit                      it is not smaller than that of g, and both are in range
 --     LargerSet g masks stop specified bits out     what holds of the whole call with the stop slice handed in: `larger_set` of proofs/Limits
 -- count, refused: how an answer says a number of seeds, and a refusal; a set with its stop slice and cubes have answers of different types.
-use Rattle.std.specs.Prelude.{◌≡◌, ◌⊎◌, List, ℕ, ◌≤◌}
+use Rattle.std.specs.Prelude.{◌≡◌, ◌⊎◌, List, ℕ, ◌≤◌, Err, Ok}
 use Rattle.refusal_causes.specs.declared.Cause.{Cause}
-use Rattle.refusal_causes.specs.declared.Written.TheVariants.{Count, Refused}
 use Rattle.refusal_lengths.specs.Lengths.{most_limit}
 use Rattle.machine_settings.specs.declared.Settings.{Settings}
 use Rattle.machine_settings.specs.Machine.{Machine}
@@ -53,4 +52,4 @@ pub record Larger (g : Settings) (limit : ℕ) : Type 0 where
 -- Whatever else is handed in, well-formed or not.
 abbrev pub LargerSet : Settings → List ℕ → TestSlice → List ℕ → List ℕ → List ℕ → Type 0
 LargerSet g masks stop specified bits out = (limit : ℕ) → Larger g limit
-    → NoWorse Count Refused (encode_set g masks stop specified bits out).answer (encode_set (with_limit limit g) masks stop specified bits out).answer
+    → NoWorse Ok Err (encode_set g masks stop specified bits out).answer (encode_set (with_limit limit g) masks stop specified bits out).answer

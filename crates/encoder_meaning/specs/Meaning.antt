@@ -5,9 +5,8 @@
 --     Listed M R set n           a shortest list of the set has n seeds
 --     Meaning M R set out o      what the outcome o says of the set
 --     SetMeaning .. o            what the outcome o of the whole call says, with the stop slice handed in
-use Rattle.std.specs.Prelude.{◌≡◌, ◌↔◌, ◌⊎◌, true, List, ◌++◌, ℕ, ◌≤◌, ◌<◌, length, get_or, take, drop}
+use Rattle.std.specs.Prelude.{◌≡◌, ◌↔◌, ◌⊎◌, true, List, ◌++◌, ℕ, ◌≤◌, ◌<◌, length, get_or, take, drop, Err, Ok}
 use Rattle.refusal_causes.specs.declared.Cause.{Cause}
-use Rattle.refusal_causes.specs.declared.Written.TheVariants.{Count, Refused}
 use Rattle.refusal_causes.specs.Outcome.{Outcome, refuse, fill}
 use Rattle.machine_slices.specs.declared.TestSlice.{TestSlice}
 use Rattle.theory_cutting.specs.Cutting.{Cutting, Covering, delivered}
@@ -20,7 +19,6 @@ use Rattle.refusal_order.specs.Order.{judged}
 use Rattle.refusal_checks.specs.Calls.{set_faults}
 use Rattle.expander_meaning.specs.Expanding.{expand_list}
 use Rattle.refusal_causes.specs.declared.Cause.TheVariants as cause
-use Rattle.refusal_order.specs.declared.Verdict.TheVariants as verdict
 
 pub record Delivers (set : List TestSlice) (expanded : List ℕ → Outcome) : Type 0 where
   pub slices : List ℕ
@@ -50,19 +48,19 @@ pub record Listed (M : Machine) (R : Rules) (set : List TestSlice) (n : ℕ) : T
 
 pub record Meaning (M : Machine) (R : Rules) (set : List TestSlice) (out : List ℕ) (o : Outcome) : Type 0 where
   -- one of three: accepted, 8 or 9
-  pub answered : ((n : ℕ) × (o.answer ≡ Count n)) ⊎ (((g : ℕ) × (o.answer ≡ Refused (cause.NoCutting g))) ⊎ ((n : ℕ) × (o.answer ≡ Refused (cause.NoSpace n))))
+  pub answered : ((n : ℕ) × (o.answer ≡ Ok n)) ⊎ (((g : ℕ) × (o.answer ≡ Err (cause.NoCutting g))) ⊎ ((n : ℕ) × (o.answer ≡ Err (cause.NoSpace n))))
   -- accepted: the seeds stand in the buffer, and every other entry is as it was
-  pub accepted : (n : ℕ) → o.answer ≡ Count n → (l : Listed M R set n) × (o.buffer ≡ l.seeds ++ drop n out)
+  pub accepted : (n : ℕ) → o.answer ≡ Ok n → (l : Listed M R set n) × (o.buffer ≡ l.seeds ++ drop n out)
   -- cause 8: whatever the space
-  pub uncut : (g : ℕ) → o.answer ≡ Refused (cause.NoCutting g) → Uncut M R set g × (o.buffer ≡ out)
+  pub uncut : (g : ℕ) → o.answer ≡ Err (cause.NoCutting g) → Uncut M R set g × (o.buffer ≡ out)
   -- cause 9: only the space is short
-  pub no_space : (n : ℕ) → o.answer ≡ Refused (cause.NoSpace n) → Listed M R set n × (length out < n) × (o.buffer ≡ out)
+  pub no_space : (n : ℕ) → o.answer ≡ Err (cause.NoSpace n) → Listed M R set n × (length out < n) × (o.buffer ≡ out)
   -- refused by 8 exactly when the set has no cutting
-  pub exactly : ((g : ℕ) × (o.answer ≡ Refused (cause.NoCutting g))) ↔ ((es : List ℕ) → Cutting (Window M R set) 0 es (length set) → ⊥)
+  pub exactly : ((g : ℕ) × (o.answer ≡ Err (cause.NoCutting g))) ↔ ((es : List ℕ) → Cutting (Window M R set) 0 es (length set) → ⊥)
 
 -- The call with the stop slice handed in: the first of causes 1 to 5 that holds; otherwise what the encoding means, and an accepted list expands back to the set.
 pub record SetMeaning (g : Settings) (masks : List ℕ) (stop : TestSlice) (specified bits out : List ℕ) (o : Outcome) : Type 0 where
-  pub refused : (c : Cause) → judged (set_faults g masks stop specified bits) ≡ verdict.Refused c → o ≡ refuse c out
-  pub meaning : judged (set_faults g masks stop specified bits) ≡ verdict.WellFormed → Meaning (machine g masks) (rules g stop) (paired specified bits) out o
-  pub delivers : (n : ℕ) → judged (set_faults g masks stop specified bits) ≡ verdict.WellFormed → o.answer ≡ Count n
+  pub refused : (c : Cause) → judged (set_faults g masks stop specified bits) ≡ Err c → o ≡ refuse c out
+  pub meaning : judged (set_faults g masks stop specified bits) ≡ Ok tt → Meaning (machine g masks) (rules g stop) (paired specified bits) out o
+  pub delivers : (n : ℕ) → judged (set_faults g masks stop specified bits) ≡ Ok tt → o.answer ≡ Ok n
       → Delivers (paired specified bits) (expand_list g masks stop (length specified) (take n o.buffer))

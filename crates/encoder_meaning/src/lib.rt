@@ -2,11 +2,10 @@
 #![tactic(auto)]
 
 use machine_slices::TestSlice;
-use refusal_causes::Cause;
 
-// The answer of the encoding of cubes: the stop slice with the number of seeds, or a refusal.
+// What the encoding of cubes gives: the stop slice, and how many seeds there are.
 #[derive(Clone, Copy)]
-pub enum Encoded {
-    Seeds(TestSlice, usize),
-    Refused(Cause),
+pub struct Encoded {
+    pub stop: TestSlice,
+    pub seeds: usize,
 }

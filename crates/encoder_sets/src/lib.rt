@@ -1,12 +1,11 @@
 // The encoding of a set with its stop slice (document 01, "Covering and cutting").
 #![tactic(auto)]
 
-ghost use Rattle.std.specs.Prelude.{◌≡◌};
+ghost use Rattle.std.specs.Prelude.{◌≡◌, Ok};
 ghost use Rattle.machine_settings.specs.Machine.{none_inverted, machine};
 ghost use Rattle.machine_slices.specs.Slices.{paired};
 ghost use Rattle.refusal_order.specs.Order.{judged};
 ghost use Rattle.refusal_checks.specs.Calls.{set_faults};
-ghost use Rattle.refusal_order.specs.declared.Verdict.TheVariants as verdict;
 ghost use Rattle.theory_covering.specs.Rules.{rules};
 ghost use Rattle.encoder_meaning.specs.Encoding.{encoding, encode_set};
 ghost use Rattle.encoder_meaning.specs.Meaning.{SetMeaning};
@@ -14,8 +13,7 @@ ghost use Rattle.encoder_meaning.specs.Meaning.{SetMeaning};
 use encoder_settling::Gathered;
 use machine_settings::Settings;
 use machine_slices::TestSlice;
-use refusal_causes::Written;
-use refusal_order::Verdict;
+use refusal_causes::Cause;
 use window_tables::Sought;
 
 // The encoding of a well-formed set, where no chain is inverted. Each window is searched once; its seed waits in an array of its own until the answer is known.
@@ -26,8 +24,8 @@ fn encode_upright(
     specified: &[u64],
     bits: &[u64],
     out: &mut [u64],
-) -> Written
-    requires { (judged (set_faults settings masks.now stop specified.now bits.now) ≡ verdict.WellFormed) × (settings.invert ≡ none_inverted) }
+) -> Result<usize, Cause>
+    requires { (judged (set_faults settings masks.now stop specified.now bits.now) ≡ Ok tt) × (settings.invert ≡ none_inverted) }
     ensures answer { result ≡ (encoding (machine settings masks.now) (rules settings stop) (paired specified.now bits.now) out.old).answer }
     ensures buffer { out.new ≡ (encoding (machine settings masks.now) (rules settings stop) (paired specified.now bits.now) out.old).buffer }
 {
@@ -35,7 +33,7 @@ fn encode_upright(
     let mut stops = [0u64; window_tables::MOST_ENTRIES];
     let mut seeds = [0u64; refusal_lengths::MOST_SLICES];
     let taps = settings.taps;
-    let rows = words_bounded::lesser(settings.limit, specified.len()) + 1;
+    let rows = settings.limit.min(specified.len()) + 1;
     search_table::fill(taps, masks, rows, &mut table);
     let pattern = window_tables::fill_stops(taps, masks, stop, rows, &mut stops);
     let sought = Sought {
@@ -60,8 +58,8 @@ pub fn encode(
     specified: &[u64],
     bits: &[u64],
     out: &mut [u64],
-) -> Written
-    requires { judged (set_faults settings masks.now stop specified.now bits.now) ≡ verdict.WellFormed }
+) -> Result<usize, Cause>
+    requires { judged (set_faults settings masks.now stop specified.now bits.now) ≡ Ok tt }
     ensures answer { result ≡ (encoding (machine settings masks.now) (rules settings stop) (paired specified.now bits.now) out.old).answer }
     ensures buffer { out.new ≡ (encoding (machine settings masks.now) (rules settings stop) (paired specified.now bits.now) out.old).buffer }
 {
@@ -88,14 +86,11 @@ pub fn encode_set(
     specified: &[u64],
     bits: &[u64],
     out: &mut [u64],
-) -> Written
+) -> Result<usize, Cause>
     ensures answer { result ≡ (encode_set settings masks.now stop specified.now bits.now out.old).answer }
     ensures buffer { out.new ≡ (encode_set settings masks.now stop specified.now bits.now out.old).buffer }
     ensures meaning { SetMeaning settings masks.now stop specified.now bits.now out.old (record { answer = result; buffer = out.new }) }
 {
-    let verdict = refusal_checks::check_set(settings, masks, stop, specified, bits);
-    match verdict {
-        Verdict::Refused(cause) => Written::Refused(cause),
-        Verdict::WellFormed => encode(settings, masks, stop, specified, bits, out),
-    }
+    refusal_checks::check_set(settings, masks, stop, specified, bits)?;
+    encode(settings, masks, stop, specified, bits, out)
 }

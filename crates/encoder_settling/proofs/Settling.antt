@@ -2,13 +2,13 @@
 --     settled_stuck, settled_through     8, or what the seeds give
 --     settled_short, settled-whole       9, or the seeds
 -- Assumes nothing.
+use Rattle.std.specs.Prelude.{Ok}
 use mathlib.Core.Path.{◌≡◌, ◌∙◌}
 use mathlib.Core.List.{List, ◌++◌}
 use Prim.Native.Nat.{ℕ, ◌≤◌, ◌<◌}
 use lib.ListN.{length, take, drop}
 use lib.Seq.{length-take-le}
 use borrow.Author.Tests.{lt-ltb, le-ltb}
-use Rattle.refusal_causes.specs.declared.Written.TheVariants.{Count}
 use Rattle.refusal_causes.specs.Outcome.{refuse, fill}
 use Rattle.refusal_causes.proofs.Outcome.{fill-whole, fill_short}
 use Rattle.encoder_settling.specs.Settling.{settled}
@@ -31,5 +31,5 @@ module _ (n : ℕ) (r : Gathered) (seeds out : List ℕ) where
     pub settled_short : length out < r.count → settled n r seeds out ≡ refuse (cause.NoSpace r.count) out
     settled_short h = settled_through come ∙ fill_short (take r.count seeds) out r.count count h
 
-    pub settled-whole : r.count ≤ length out → settled n r seeds out ≡ record { answer = Count r.count; buffer = take r.count seeds ++ drop r.count out }
+    pub settled-whole : r.count ≤ length out → settled n r seeds out ≡ record { answer = Ok r.count; buffer = take r.count seeds ++ drop r.count out }
     settled-whole h = settled_through come ∙ fill-whole (take r.count seeds) out r.count count h

@@ -5,14 +5,13 @@
 --     Row, table   the questions with what document 01 tells
 --     answers, tolds     the two columns of a table
 --     starred      the definitions answer what document 01 tells, in every row
-use Rattle.std.specs.Prelude.{◌≡◌, refl, Bool, true, false, List, [], ◌∷◌, ℕ, zero, suc, take}
+use Rattle.encoder_meaning.specs.declared.Encoded.{Encoded}
+use Rattle.std.specs.Prelude.{◌≡◌, refl, Bool, true, false, List, [], ◌∷◌, ℕ, zero, suc, take, Err, Ok, Result}
 use Prim.Native.String.{String}
 use Rattle.std.specs.Int.Count.{ones, ones_in}
 use Rattle.words_bounded.specs.Bounded.{within, any, least_below, last_below}
 use Rattle.words_gf2.specs.Words.{digit, odd, beyond}
 use Rattle.refusal_causes.specs.declared.Cause.{Cause}
-use Rattle.refusal_causes.specs.declared.Written.{Written}
-use Rattle.refusal_causes.specs.declared.Written.TheVariants as written
 use Rattle.refusal_causes.specs.Sheet.{refusal_of}
 use Rattle.refusal_causes.specs.Outcome.{Outcome, refuse, fill}
 use Rattle.machine_register.specs.Register.{step, bad_register}
@@ -28,19 +27,13 @@ use Rattle.theory_cutting.specs.Greedy.{reach, hop, ends, greedy}
 use Rattle.stop_steps.specs.Steps.{filter, count, better, choice, settle, keep, set_by, advance, stage, ended, steps, stop_for}
 use Rattle.stop_spare.specs.Spare.{equals, taken, spare, spare_stop}
 use Rattle.stop_slice.specs.Entry.{stop_or6, stop_of}
-use Rattle.stop_slice.specs.declared.Formed.{Formed}
-use Rattle.stop_slice.specs.declared.Formed.TheVariants as formed
 use Rattle.theory_covering.specs.Covering.{fits, quiet, covers, seed_of}
 use Rattle.theory_covering.specs.Windows.{before, far, placed, closes, seed_at, ok}
 use Rattle.theory_covering.specs.Single.{lowest_or7, window_seed}
-use Rattle.theory_covering.specs.declared.Seed.{Seed}
-use Rattle.theory_covering.specs.declared.Seed.TheVariants as seed
 use Rattle.expander_meaning.specs.Run.{slices_of, first_stop, ending, delivers}
 use Rattle.expander_meaning.specs.Expanding.{after, adding, walk, totalled, expanding, expand_list}
 use Rattle.encoder_meaning.specs.Encoding.{seeds_of, planned, encoding, encode_set}
 use Rattle.encoder_cubes.specs.Cubes.{CubesOutcome, stopped, with_stop, cubes_encoding, encode_cubes}
-use Rattle.encoder_meaning.specs.declared.Encoded.{Encoded}
-use Rattle.encoder_meaning.specs.declared.Encoded.TheVariants as encoded
 use Rattle.text_characters.specs.Characters.{is_character, specified_at, bit_at, in_front, slice_of}
 use Rattle.examples_bench.specs.Reading.{slice, specifieds, bitses}
 
@@ -85,21 +78,21 @@ showings : TestSlice → ℕ → ℕ → ℕ → List ℕ
 showings stop s t zero = []
 showings stop s t (suc d) = elim (shows stop (R.slice s)) [ true ↦ t ∷ showings stop (R.step s) (suc t) d | false ↦ showings stop (R.step s) (suc t) d ]
 
-of_formed : Formed → Told
-of_formed (formed.Stop stop) = slice_is stop
-of_formed (formed.Refused c) = refusal c
+of_formed : Result TestSlice Cause → Told
+of_formed (Ok stop) = slice_is stop
+of_formed (Err c) = refusal c
 
-of_seed : Seed → Told
-of_seed (seed.Lowest s) = numbers (s ∷ [])
-of_seed (seed.Refused c) = refusal c
+of_seed : Result ℕ Cause → Told
+of_seed (Ok s) = numbers (s ∷ [])
+of_seed (Err c) = refusal c
 
-of_written : Written → List ℕ → Told
-of_written (written.Count n) buffer = numbers (take n buffer)
-of_written (written.Refused c) buffer = refusal c
+of_written : Result ℕ Cause → List ℕ → Told
+of_written (Ok n) buffer = numbers (take n buffer)
+of_written (Err c) buffer = refusal c
 
-of_encoded : Encoded → List ℕ → Told
-of_encoded (encoded.Seeds stop n) buffer = list_is stop (take n buffer)
-of_encoded (encoded.Refused c) buffer = refusal c
+of_encoded : Result Encoded Cause → List ℕ → Told
+of_encoded (Ok e) buffer = list_is e.stop (take e.seeds buffer)
+of_encoded (Err c) buffer = refusal c
 
 yes : Bool → ℕ
 yes true = 1

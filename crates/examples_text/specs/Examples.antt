@@ -53,9 +53,7 @@ use Rattle.text_encode.specs.Sheet.{reply_under, sheet_reply}
 use Rattle.text_expand.specs.List.{seed_list_reply}
 use Rattle.text_calls.specs.Texts.{concluded, reply_to, printed_for, call_of, encode_text, encode_call, expand_text, expand_call}
 use Rattle.text_replies.specs.Replies.{printed}
-use Rattle.text_replies.specs.Calls.{TextOutcome, answered, called}
-use Rattle.text_replies.specs.declared.Answer.{Answer}
-use Rattle.text_replies.specs.declared.Answer.TheVariants.{Text, Refused}
+use Rattle.text_replies.specs.Calls.{TextOutcome, answered, called, written, refused_with, Answer}
 
 pub data Question : Type 0 where
   encode : List ℕ → Question
@@ -210,10 +208,10 @@ table =
     ∷ record { asked = expand (R "window=2\nstop=01\nslices=2\nseed=0\n"); told = prints (bytes "slice=00\nslice=00\n") }
     ∷ record { asked = expand (R "window=2\nstop=01\nslices=3\nseed=0\n"); told = prints (bytes "refused=12\nat=0\n") }
     -- the sheet's list in a buffer with one byte more, and with one byte less: 71 bytes, 2 seeds
-    ∷ record { asked = encode_into 72 (R "depth=2\nslice=10\nslice=x1\nslice=1x\nslice=1x\n"); told = leaves (Text 71 2) (bytes "cells=3\ntaps=6\nchains=2\nchain=1\nchain=4\nstop=0x\nslices=4\nseed=3\nseed=3\n" ++ old 1) }
-    ∷ record { asked = encode_into 70 (R "depth=2\nslice=10\nslice=x1\nslice=1x\nslice=1x\n"); told = leaves (Refused (record { number = 9; value = 71 }) 2) (old 70) }
+    ∷ record { asked = encode_into 72 (R "depth=2\nslice=10\nslice=x1\nslice=1x\nslice=1x\n"); told = leaves (written 71 2) (bytes "cells=3\ntaps=6\nchains=2\nchain=1\nchain=4\nstop=0x\nslices=4\nseed=3\nseed=3\n" ++ old 1) }
+    ∷ record { asked = encode_into 70 (R "depth=2\nslice=10\nslice=x1\nslice=1x\nslice=1x\n"); told = leaves (refused_with (record { number = 9; value = 71 }) 2) (old 70) }
     -- a refused text leaves the buffer as it was
-    ∷ record { asked = expand_into 40 (R "stop=xx\n"); told = leaves (Refused (record { number = 5; value = 6 }) 0) (old 40) }
+    ∷ record { asked = expand_into 40 (R "stop=xx\n"); told = leaves (refused_with (record { number = 5; value = 6 }) 0) (old 40) }
     ∷ []
 
 pub answers : List Row → List Told

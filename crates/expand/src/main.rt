@@ -1,9 +1,7 @@
 // The expanding program: a seed list from standard input, its slices or the refusal to standard output.
 #![tactic(auto)]
 
-ghost use Rattle.std.specs.Prelude.{◌≡◌, ◌++◌, ◌≤◌, length, drop};
-ghost use Rattle.io.specs.Counts.{IsPrefixLen};
-ghost use Rattle.text_bounds.specs.Bounds.{most_text};
+ghost use Rattle.std.specs.Prelude.{List, ℕ};
 ghost use Rattle.text_calls.specs.Texts.{expand_reply, expand_text};
 ghost use Rattle.text_program.specs.Answered.{IsAnswered};
 ghost use Rattle.text_meaning.specs.Lists.{ListMeaning};
@@ -11,27 +9,13 @@ ghost use Rattle.text_meaning.specs.Lists.{ListMeaning};
 use std::io::{Read, Write};
 use text_order::Kind;
 
-// What is printed for a seed list, at the front of a buffer that has space for every answer: how many bytes it is.
-fn reply(list: &[u8], out: &mut [u8]) -> usize
-    requires { most_text ≤ length out.old }
-    ensures count { result ≡ length (expand_text list.now) }
-    ensures bytes { out.new ≡ expand_text list.now ++ drop (length (expand_text list.now)) out.old }
-    ensures within { IsPrefixLen result out.new }
-    ensures meaning { ListMeaning list.now (expand_reply list.now) }
-{
-    text_program::reply(Kind::SeedList, list, out)
-}
-
 // Reads a seed list and writes what is printed for it. What the writer gets is the beginning of what is printed for the text that came from the reader;
 // that the text is read and the answer written to the end is not promised, since a read and a write can fail.
 fn run<R: Read, W: Write>(reader: &mut R, writer: &mut W)
-    ensures { IsAnswered expand_text (R.remaining reader.old) (R.remaining reader.new) (W.contents writer.old) (W.contents writer.new) }
+    ensures answered { IsAnswered expand_text (R.remaining reader.old) (R.remaining reader.new) (W.contents writer.old) (W.contents writer.new) }
+    ensures meaning { (list : List ℕ) → ListMeaning list (expand_reply list) }
 {
-    let mut input = [0u8; text_program::LONGEST_INPUT];
-    let mut output = [0u8; text_program::LONGEST_OUTPUT];
-    let n = text_program::read_text(reader, &mut input);
-    let count = reply(&input[..n], &mut output);
-    stream::write_all(writer, &output[..count]);
+    text_program::run(Kind::SeedList, reader, writer);
 }
 
 fn main(rt: HostRuntime) {

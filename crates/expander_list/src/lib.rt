@@ -2,68 +2,36 @@
 #![tactic(auto)]
 
 ghost use Rattle.std.specs.Prelude.{◌≡◌, ◌≤◌, length};
-ghost use Rattle.machine_settings.specs.Machine.{register_of, machine};
+ghost use Rattle.machine_settings.specs.Machine.{machine};
 ghost use Rattle.theory_covering.specs.Rules.{rules};
 ghost use Rattle.expander_meaning.specs.Expanding.{expanding, expand_list};
-ghost use Rattle.expander_meaning.specs.Sized.{Sized};
 
-use machine_register::{Made, Register};
+use expander_run::Expander;
+use machine_register::Register;
 use machine_settings::Settings;
 use machine_slices::TestSlice;
-use refusal_causes::{Cause, Written};
-use refusal_order::Verdict;
+use refusal_causes::Cause;
 
 // The expanding of a list that is well-formed: the seeds' causes, then 14, then 9, then the slices.
 fn expand_formed(
-    settings: Settings,
-    register: Register,
-    masks: &[u64],
-    stop: TestSlice,
+    expander: &Expander,
     slices: usize,
     seeds: &[u64],
     out: &mut [u64],
-) -> Written
-    requires ready { Sized settings masks.now }
+) -> Result<usize, Cause>
     requires seeds { length seeds.now ≤ 2048 }
-    requires made { register ≡ register_of settings }
-    ensures answer { result ≡ (expanding (machine settings masks.now) (rules settings stop) slices seeds.now out.old).answer }
-    ensures buffer { out.new ≡ (expanding (machine settings masks.now) (rules settings stop) slices seeds.now out.old).buffer }
+    ensures answer { result ≡ (expanding (machine expander.now.settings expander.now.masks.now) (rules expander.now.settings expander.now.stop) slices seeds.now out.old).answer }
+    ensures buffer { out.new ≡ (expanding (machine expander.now.settings expander.now.masks.now) (rules expander.now.settings expander.now.stop) slices seeds.now out.old).buffer }
 {
-    let found = expander_total::total_of(settings, register, masks, stop, slices, seeds);
-    match found {
-        Written::Refused(cause) => Written::Refused(cause),
-        Written::Count(total) => {
-            if total != slices {
-                return Written::Refused(Cause::Total(total));
-            }
-            if out.len() < total {
-                return Written::Refused(Cause::NoSpace(total));
-            }
-            expander_writing::write_all(settings, register, masks, stop, slices, seeds, out);
-            Written::Count(total)
-        }
+    let total = expander_total::total_of(expander, slices, seeds)?;
+    if total != slices {
+        return Err(Cause::Total(total));
     }
-}
-
-// The expanding of a list whose register is lawful: causes 2, 3 and 5, then those of the seeds.
-fn expand_judged(
-    settings: Settings,
-    register: Register,
-    masks: &[u64],
-    stop: TestSlice,
-    slices: usize,
-    seeds: &[u64],
-    out: &mut [u64],
-) -> Written
-    requires { register ≡ register_of settings }
-    ensures answer { result ≡ (expand_list settings masks.now stop slices seeds.now out.old).answer }
-    ensures buffer { out.new ≡ (expand_list settings masks.now stop slices seeds.now out.old).buffer }
-{
-    let verdict = refusal_checks::check_list(settings, masks, stop, slices, seeds.len());
-    match verdict {
-        Verdict::Refused(cause) => Written::Refused(cause),
-        Verdict::WellFormed => expand_formed(settings, register, masks, stop, slices, seeds, out),
+    if out.len() < total {
+        return Err(Cause::NoSpace(total));
     }
+    expander_writing::write_all(expander, slices, seeds, out);
+    Ok(total)
 }
 
 // The slices of a seed list: how many were written into the buffer, or causes 1, 2, 3, 5, then 10, 11, 12 of the first refused seed, then 14, then 9.
@@ -74,14 +42,17 @@ pub fn expand_list(
     slices: usize,
     seeds: &[u64],
     out: &mut [u64],
-) -> Written
+) -> Result<usize, Cause>
     ensures answer { result ≡ (expand_list settings masks.now stop slices seeds.now out.old).answer }
     ensures buffer { out.new ≡ (expand_list settings masks.now stop slices seeds.now out.old).buffer }
 {
-    match Register::new(settings.cells, settings.taps) {
-        Made::Register(register) => {
-            expand_judged(settings, register, masks, stop, slices, seeds, out)
-        }
-        Made::Refused(cause) => Written::Refused(cause),
-    }
+    let register = Register::new(settings.cells, settings.taps)?;
+    refusal_checks::check_list(settings, masks, stop, slices, seeds.len())?;
+    let expander = Expander {
+        settings,
+        register,
+        masks,
+        stop,
+    };
+    expand_formed(&expander, slices, seeds, out)
 }

@@ -7,10 +7,10 @@
 --     delivered_few                it delivers at most the limit
 --     delivered-run                of the slices left, those before its stop are the m that it delivers
 -- Assumes nothing.
+use Rattle.std.specs.Prelude.{None, Some}
 use mathlib.Core.Path.{◌≡◌, refl, sym, ap, ◌∙◌}
 use mathlib.Core.Logic.{◌⊎◌, inl, inr, ⊎_elim}
 use mathlib.Core.Bool.{Bool, true, false, ◌&&◌}
-use mathlib.Core.Option.{none, some}
 use Prim.Native.Nat.{ℕ, zero, suc, ◌≤◌, ◌<◌, min}
 use native.Mathlib.Omega.{arith}
 use lib.Dec.{leb}
@@ -28,12 +28,12 @@ use Rattle.expander_meaning.proofs.Until.{until_front, until_stop_lem, at_within
 abbrev pub before : Machine → Rules → TestSlice → ℕ → ℕ
 before M R stop s = length (until_stop M stop (suc R.limit) s)
 
-ending_open : (place left q : ℕ) → 0 < q → ending place true left (some q) ≡ gives (min left q)
+ending_open : (place left q : ℕ) → 0 < q → ending place true left (Some q) ≡ gives (min left q)
 unfolding ending
 ending_open place left zero h = absurd (omega arith)
 ending_open place left (suc q) h = refl
 
-ending-closed : (place left q : ℕ) → 0 < q → ending place false left (some q) ≡ gives q
+ending-closed : (place left q : ℕ) → 0 < q → ending place false left (Some q) ≡ gives q
 unfolding ending
 ending-closed place left zero h = absurd (omega arith)
 ending-closed place left (suc q) h = refl
@@ -49,10 +49,10 @@ module _ (M : Machine) (R : Rules) (stop : TestSlice) (place : ℕ) (last : Bool
   unfolding delivers
   beyond_states h = rw (le-ltb s M.states h, delivers)
 
-  pub stops-within : q ≤ R.limit → first_stop M stop (suc R.limit) s ≡ some q
+  pub stops-within : q ≤ R.limit → first_stop M stop (suc R.limit) s ≡ Some q
   stops-within h = until_stop_lem M stop (suc R.limit) s ∙ at_within (suc R.limit) q (omega arith)
 
-  pub stops_never : R.limit < q → first_stop M stop (suc R.limit) s ≡ none
+  pub stops_never : R.limit < q → first_stop M stop (suc R.limit) s ≡ None
   stops_never h = until_stop_lem M stop (suc R.limit) s ∙ at_never (suc R.limit) q h
 
   module _ (state : s < M.states) where

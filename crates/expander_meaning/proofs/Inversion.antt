@@ -1,9 +1,9 @@
 -- A well-formed list delivers under inverted chains what it delivers without inversion under the flipped stop slice, turned at those chains (document 02, R-4).
 --     inverted_list     the whole call
 -- Assumes nothing.
+use Rattle.std.specs.Prelude.{Ok, Option, Some, option_map}
 use mathlib.Core.Path.{◌≡◌, refl, sym, ap, ap₂, subst, ◌∙◌}
 use mathlib.Core.Bool.{Bool, true, false, ◌&&◌}
-use mathlib.Core.Option.{Option, some, map}
 use mathlib.Core.List.{List, [], ◌∷◌, ◌++◌, map-append}
 use Prim.Native.Nat.{ℕ, zero, suc, ◌+◌, ◌-◌}
 use native.Mathlib.Omega.{arith}
@@ -13,7 +13,6 @@ use lib.ListN.{length, take, drop, length-map}
 use lib.Seq.{take_at}
 use Rattle.refusal_causes.specs.declared.Cause.{Cause}
 use Rattle.refusal_causes.specs.declared.Cause.TheVariants.{NoSpace, SeedBeyond, Total}
-use Rattle.refusal_causes.specs.declared.Written.TheVariants.{Count}
 use Rattle.refusal_causes.specs.Outcome.{Outcome, refuse, fill}
 use Rattle.machine_settings.specs.declared.Settings.{Settings}
 use Rattle.machine_settings.specs.Machine.{Machine, machine}
@@ -22,7 +21,6 @@ use Rattle.machine_slices.specs.declared.TestSlice.{TestSlice}
 use Rattle.machine_inversion.specs.Inversion.{flipped, upright}
 use Rattle.refusal_order.specs.Order.{judged}
 use Rattle.refusal_checks.specs.Calls.{list_faults}
-use Rattle.refusal_order.specs.declared.Verdict.TheVariants.{WellFormed}
 use Rattle.theory_covering.specs.Rules.{Rules, rules}
 use Rattle.theory_covering.specs.Inversion.{flipped_rules}
 use Rattle.theory_covering.proofs.Inversion.{shows_inverted}
@@ -46,7 +44,7 @@ module _ (invert : ℕ) where
   -- the same answer, and what is written is turned
   record Turns (o p : Outcome) : Type 0 where
     answer : o.answer ≡ p.answer
-    slices : (m : ℕ) → o.answer ≡ Count m → take m o.buffer ≡ turned invert (take m p.buffer)
+    slices : (m : ℕ) → o.answer ≡ Ok m → take m o.buffer ≡ turned invert (take m p.buffer)
 
   refuse-turned : (c : Cause) (out : List ℕ) → Turns (refuse c out) (refuse c out)
   unfolding refuse
@@ -57,7 +55,7 @@ module _ (invert : ℕ) where
   fill-turned vs out = subst (λ (k : ℕ). Turns (full k (leb k (length out)) (turned invert vs)) (fill vs out)) (sym (length-map vs (λ (v : ℕ). bit_xor v invert))) (by (leb (length vs) (length out)))
     where
       full : ℕ → Bool → List ℕ → Outcome
-      full k b xs = elim b [ true ↦ record { answer = Count k; buffer = xs ++ drop k out } | false ↦ refuse (NoSpace k) out ]
+      full k b xs = elim b [ true ↦ record { answer = Ok k; buffer = xs ++ drop k out } | false ↦ refuse (NoSpace k) out ]
 
       by : (b : Bool) → Turns (full (length vs) b (turned invert vs)) (full (length vs) b vs)
       by true = record {
@@ -98,7 +96,7 @@ module _ (g : Settings) (masks : List ℕ) where
     unfolding first_stop
     stop_inverted zero s = refl
     stop_inverted (suc d) s =
-        ap₂ (λ (b : Bool) (o : Option ℕ). elim b [ true ↦ some 0 | false ↦ map suc o ]) (shows_inverted g masks stop s) (stop_inverted d (M.step s))
+        ap₂ (λ (b : Bool) (o : Option ℕ). elim b [ true ↦ Some 0 | false ↦ option_map suc o ]) (shows_inverted g masks stop s) (stop_inverted d (M.step s))
 
     delivers_inverted : (R : Rules) (place : ℕ) (last : Bool) (left s : ℕ) → delivers M R stop place last left s ≡ delivers N (flipped_rules g.invert R) (flipped g.invert stop) place last left s
     unfolding delivers
@@ -129,12 +127,12 @@ module _ (g : Settings) (masks : List ℕ) where
         by : Given → Walk
         by d = elim d [ fails c ↦ failed c | gives m ↦ adding M done s m (walk M R n (suc place) (done + m) ss) ]
 
-list_expands : (g : Settings) (masks : List ℕ) (stop : TestSlice) (n : ℕ) (seeds out : List ℕ) → judged (list_faults g masks stop n (length seeds)) ≡ WellFormed
+list_expands : (g : Settings) (masks : List ℕ) (stop : TestSlice) (n : ℕ) (seeds out : List ℕ) → judged (list_faults g masks stop n (length seeds)) ≡ Ok tt
     → expand_list g masks stop n seeds out ≡ totalled n out (walk (machine g masks) (rules g stop) n 0 0 seeds)
 unfolding expand_list expanding
 list_expands g masks stop n seeds out w = rw (w, expand_list)
 
-module _ (g : Settings) (masks : List ℕ) (stop : TestSlice) (n : ℕ) (seeds out : List ℕ) (formed : judged (list_faults g masks stop n (length seeds)) ≡ WellFormed) where
+module _ (g : Settings) (masks : List ℕ) (stop : TestSlice) (n : ℕ) (seeds out : List ℕ) (formed : judged (list_faults g masks stop n (length seeds)) ≡ Ok tt) where
   turns : Turns g.invert (expand_list g masks stop n seeds out) (expand_list (upright g) masks (flipped g.invert stop) n seeds out)
   turns = rw (list_expands g masks stop n seeds out formed, list_expands (upright g) masks (flipped g.invert stop) n seeds out (list_upright g masks stop n (length seeds) formed), inverted_walk g masks (rules g stop) n 0 0 seeds)
       (total-turned g.invert n out (walk (machine (upright g) masks) (rules (upright g) (flipped g.invert stop)) n 0 0 seeds))

@@ -1,10 +1,10 @@
 -- The last seed of a list, where it need not close with its stop.
 --     last-seed     the law, for all rules with an open end
 -- Assumes nothing.
+use Rattle.std.specs.Prelude.{None, Some}
 use mathlib.Core.Path.{◌≡◌, sym, ap, ◌∙◌}
 use mathlib.Core.Logic.{⊎_elim}
 use mathlib.Core.Bool.{Bool, true, false, ◌&&◌, and-false}
-use mathlib.Core.Option.{none, some}
 use mathlib.Core.List.{[], ◌∷◌, append-nil}
 use Prim.Native.Nat.{ℕ, suc, ◌-◌, ◌≤◌, ◌<◌, min}
 use native.Mathlib.Omega.{arith}
@@ -62,13 +62,13 @@ module _ (M : Machine) (R : Rules) (n place done s : ℕ) (unclosed : R.open_end
     far : R.limit < n - done → (last && leb (n - done) R.limit) ≡ false
     far l = rw (lt-leb (n - done) R.limit l, and-false)
 
-    stop-before : (t : ℕ) → first_stop M stop (suc R.limit) s ≡ some t → (q ≡ t) × (q ≤ R.limit)
+    stop-before : (t : ℕ) → first_stop M stop (suc R.limit) s ≡ Some t → (q ≡ t) × (q ≤ R.limit)
     stop-before t e = ⊎_elim
         (λ l. absurd (let f = sym e ∙ stops_never M R stop place last (n - done) s l in let z : ◌≡◌ {A = ℕ} 0 1 = cc in omega arith))
         (λ l. ((let f = sym e ∙ stops-within M R stop place last (n - done) s l in cc), l))
         (lt_or_le R.limit q)
 
-    no_stop : first_stop M stop (suc R.limit) s ≡ none → R.limit < q
+    no_stop : first_stop M stop (suc R.limit) s ≡ None → R.limit < q
     no_stop e = ⊎_elim
         (λ l. l)
         (λ l. absurd (let f = sym e ∙ stops-within M R stop place last (n - done) s l in let z : ◌≡◌ {A = ℕ} 0 1 = cc in omega arith))

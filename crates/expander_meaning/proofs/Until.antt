@@ -5,10 +5,10 @@
 --     until_slices         they are the first slices of the state
 --     until_stop_lem           the stop first shows right behind them, or in none of the slices looked at: at_within, at_never
 -- Assumes nothing.
+use Rattle.std.specs.Prelude.{None, Option, Some, option_map}
 use mathlib.Core.Path.{◌≡◌, refl, sym, ap, ◌∙◌}
 use mathlib.Core.Logic.{⊎_elim}
 use mathlib.Core.Bool.{Bool, true, false}
-use mathlib.Core.Option.{Option, none, some, map}
 use mathlib.Core.List.{List, [], ◌∷◌}
 use Prim.Native.Nat.{ℕ, zero, suc, ◌≤◌, ◌<◌, min}
 use native.Mathlib.Omega.{arith}
@@ -23,18 +23,18 @@ use Rattle.expander_meaning.specs.Run.{slices_of, first_stop}
 use Rattle.expander_meaning.specs.Until.{until_stop}
 
 abbrev at_stop : ℕ → ℕ → Option ℕ
-at_stop d q = elim (ltb q d) [ true ↦ some q | false ↦ none ]
+at_stop d q = elim (ltb q d) [ true ↦ Some q | false ↦ None ]
 
-pub at_within : (d q : ℕ) → q < d → at_stop d q ≡ some q
+pub at_within : (d q : ℕ) → q < d → at_stop d q ≡ Some q
 at_within d q h = rw (lt-ltb q d h, at_stop)
 
-pub at_never : (d q : ℕ) → d ≤ q → at_stop d q ≡ none
+pub at_never : (d q : ℕ) → d ≤ q → at_stop d q ≡ None
 at_never d q h = rw (le-ltb q d h, at_stop)
 
-at_stop_more : (d q : ℕ) → map suc (at_stop d q) ≡ at_stop (suc d) (suc q)
+at_stop_more : (d q : ℕ) → option_map suc (at_stop d q) ≡ at_stop (suc d) (suc q)
 at_stop_more d q = ⊎_elim
-    (λ l. ap (map suc) (at_within d q l) ∙ sym (at_within (suc d) (suc q) (omega arith)))
-    (λ l. ap (map suc) (at_never d q l) ∙ sym (at_never (suc d) (suc q) (omega arith)))
+    (λ l. ap (option_map suc) (at_within d q l) ∙ sym (at_within (suc d) (suc q) (omega arith)))
+    (λ l. ap (option_map suc) (at_never d q l) ∙ sym (at_never (suc d) (suc q) (omega arith)))
     (lt_or_le q d)
 
 module _ (M : Machine) (stop : TestSlice) where
@@ -87,6 +87,6 @@ module _ (M : Machine) (stop : TestSlice) where
   until_stop_lem (suc d) s = go (shows stop (M.slice s)) (until_stop_lem d (M.step s))
     where
       go : (b : Bool) → first_stop M stop d (M.step s) ≡ at_stop d (length (until_stop M stop d (M.step s)))
-          → ◌≡◌ {A = Option ℕ} (elim b [ true ↦ some 0 | false ↦ map suc (first_stop M stop d (M.step s)) ]) (at_stop (suc d) (length {A = ℕ} (elim b [ true ↦ [] | false ↦ M.slice s ∷ until_stop M stop d (M.step s) ])))
+          → ◌≡◌ {A = Option ℕ} (elim b [ true ↦ Some 0 | false ↦ option_map suc (first_stop M stop d (M.step s)) ]) (at_stop (suc d) (length {A = ℕ} (elim b [ true ↦ [] | false ↦ M.slice s ∷ until_stop M stop d (M.step s) ])))
       go true ih = sym (at_within (suc d) 0 (omega arith))
-      go false ih = ap (map suc) ih ∙ at_stop_more d (length (until_stop M stop d (M.step s)))
+      go false ih = ap (option_map suc) ih ∙ at_stop_more d (length (until_stop M stop d (M.step s)))

@@ -7,7 +7,7 @@
 --     totalled n out w                      the outcome of a walk: its cause, 14 where the total differs, or the slices, or 9
 --     expanding M R n seeds out             the answer and the buffer that expanding leaves
 --     expand_list g masks stop n seeds out     the same of the whole call: causes 1, 2, 3 and 5 come first
-use Rattle.std.specs.Prelude.{Bool, true, false, ◌&&◌, List, [], ◌∷◌, ◌++◌, ℕ, zero, suc, ◌+◌, ◌-◌, eqb, length}
+use Rattle.std.specs.Prelude.{Bool, true, false, ◌&&◌, List, [], ◌∷◌, ◌++◌, ℕ, zero, suc, ◌+◌, ◌-◌, eqb, length, Err, Ok}
 use Rattle.refusal_causes.specs.declared.Cause.{Cause}
 use Rattle.refusal_causes.specs.declared.Cause.TheVariants.{Total}
 use Rattle.refusal_causes.specs.Outcome.{Outcome, refuse, fill}
@@ -16,7 +16,6 @@ use Rattle.machine_settings.specs.Machine.{Machine, machine}
 use Rattle.machine_slices.specs.declared.TestSlice.{TestSlice}
 use Rattle.refusal_order.specs.Order.{judged}
 use Rattle.refusal_checks.specs.Calls.{list_faults}
-use Rattle.refusal_order.specs.declared.Verdict.TheVariants as verdict
 use Rattle.theory_covering.specs.Rules.{Rules, rules}
 use Rattle.expander_meaning.specs.Run.{slices_of, gives, fails, delivers}
 
@@ -54,6 +53,6 @@ expanding M R n seeds out = totalled n out (walk M R n 0 0 seeds)
 
 unfoldable pub expand_list : Settings → List ℕ → TestSlice → ℕ → List ℕ → List ℕ → Outcome
 expand_list g masks stop n seeds out = elim (judged (list_faults g masks stop n (length seeds))) [
-  | verdict.Refused c ↦ refuse c out
-  | verdict.WellFormed ↦ expanding (machine g masks) (rules g stop) n seeds out
+  | Err c ↦ refuse c out
+  | (Ok tt) ↦ expanding (machine g masks) (rules g stop) n seeds out
 ]

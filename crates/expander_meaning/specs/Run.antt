@@ -4,8 +4,7 @@
 --     Given                       a seed delivers so many slices, or is refused
 --     ending place last left o    what a seed at that place delivers whose stop first shows at o. last: it is a last seed that need not close; left: the slices still to come
 --     delivers M R stop place last left s     what the seed s at that place delivers
-use Rattle.std.specs.Prelude.{Bool, true, false, ◌&&◌, List, [], ◌∷◌, ℕ, zero, suc, min, ltb, leb}
-use Rattle.std.proofs.Math.Option.{Option, none, some, map}
+use Rattle.std.specs.Prelude.{Bool, true, false, ◌&&◌, List, [], ◌∷◌, ℕ, zero, suc, min, ltb, leb, None, Option, Some, option_map}
 use Rattle.refusal_causes.specs.declared.Cause.{Cause}
 use Rattle.refusal_causes.specs.declared.Cause.TheVariants.{SeedBeyond, SeedAtStop, SeedEndless}
 use Rattle.machine_settings.specs.Machine.{Machine}
@@ -19,17 +18,17 @@ slices_of M zero s = []
 slices_of M (suc m) s = M.slice s ∷ slices_of M m (M.step s)
 
 unfoldable pub first_stop : Machine → TestSlice → ℕ → ℕ → Option ℕ
-first_stop M stop zero s = none
-first_stop M stop (suc d) s = elim (shows stop (M.slice s)) [ true ↦ some 0 | false ↦ map suc (first_stop M stop d (M.step s)) ]
+first_stop M stop zero s = None
+first_stop M stop (suc d) s = elim (shows stop (M.slice s)) [ true ↦ Some 0 | false ↦ option_map suc (first_stop M stop d (M.step s)) ]
 
 pub data Given : Type 0 where
   gives : ℕ → Given
   fails : Cause → Given
 
 unfoldable pub ending : ℕ → Bool → ℕ → Option ℕ → Given
-ending place last left (some zero) = fails (SeedAtStop place)
-ending place last left (some (suc t)) = gives (elim last [ true ↦ min left (suc t) | false ↦ suc t ])
-ending place last left none = elim last [ true ↦ gives left | false ↦ fails (SeedEndless place) ]
+ending place last left (Some zero) = fails (SeedAtStop place)
+ending place last left (Some (suc t)) = gives (elim last [ true ↦ min left (suc t) | false ↦ suc t ])
+ending place last left None = elim last [ true ↦ gives left | false ↦ fails (SeedEndless place) ]
 
 -- A seed is tested by 10, then 11, then 12; the stop is looked for in slices 0 to limit.
 unfoldable pub delivers : Machine → Rules → TestSlice → ℕ → Bool → ℕ → ℕ → Given

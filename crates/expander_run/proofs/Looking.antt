@@ -4,6 +4,8 @@
 --     told-beyond                      a seed that is no state: 10
 --     told_at_stop, told_open, told-closed, told_endless     slice 0 shows the stop: 11; a last seed that need not close; any other one; none of its slices shows the stop: 12
 -- Assumes nothing.
+use Rattle.std.specs.Prelude.{Err, Ok, Result}
+use Rattle.refusal_causes.specs.declared.Cause.{Cause}
 use mathlib.Core.Path.{◌≡◌, refl, sym, ap, ◌∙◌}
 use mathlib.Core.Bool.{Bool, true, false, ◌&&◌}
 use mathlib.Core.List.{List}
@@ -15,8 +17,6 @@ use borrow.Author.Tests.{ltb-true, ltb-false, leb-true}
 use Rattle.words_bounded.proofs.Tests.{both}
 use Rattle.words_gf2.specs.Words.{beyond}
 use Rattle.refusal_causes.specs.declared.Cause.TheVariants.{SeedBeyond, SeedAtStop, SeedEndless}
-use Rattle.refusal_causes.specs.declared.Written.{Written}
-use Rattle.refusal_causes.specs.declared.Written.TheVariants.{Count, Refused}
 use Rattle.machine_settings.specs.declared.Settings.{Settings}
 use Rattle.machine_settings.specs.Machine.{Machine, machine}
 use Rattle.machine_settings.proofs.Machine.{machine_states}
@@ -43,7 +43,7 @@ module _ (g : Settings) (masks : List ℕ) (stop : TestSlice) (place : ℕ) (las
   abbrev R : Rules
   R = rules g stop
 
-  abbrev said : Written
+  abbrev said : Result ℕ Cause
   said = told (delivers M R stop place last left s)
 
   abbrev unclosed : Bool
@@ -52,7 +52,7 @@ module _ (g : Settings) (masks : List ℕ) (stop : TestSlice) (place : ℕ) (las
   pub counted_by : (t d : ℕ) (u : Bool) → t ≡ length (until_stop M stop d s) → d ≡ looked_at g.limit u left → u ≡ unclosed → t ≡ length (until_stop M stop (looked_at g.limit unclosed left) s)
   counted_by t d u e f h = e ∙ ap (λ (k : ℕ). length (until_stop M stop k s)) (f ∙ ap (λ (b : Bool). looked_at g.limit b left) h)
 
-  pub told-beyond : beyond g.cells s ≡ true → said ≡ Refused (SeedBeyond place)
+  pub told-beyond : beyond g.cells s ≡ true → said ≡ Err (SeedBeyond place)
   unfolding told
   told-beyond h = ap told (beyond_states M R stop place last left s (ltb-false s M.states (rw (machine_states g masks s, h))))
 
@@ -75,23 +75,23 @@ module _ (g : Settings) (masks : List ℕ) (stop : TestSlice) (place : ℕ) (las
         same : t ≡ min (max 1 left) q
         same = let l = few in seen (max 1 left) t (counted ∙ ap (λ (d : ℕ). length (until_stop M stop d s)) (looked_open g.limit left unclosed o)) (omega arith)
 
-        pub told_open : 0 < t → said ≡ Count (min left t)
+        pub told_open : 0 < t → said ≡ Ok (min left t)
         unfolding told
-        told_open l = let w = same in let m : min left q ≡ min left t = omega arith in ap told (gives_open M R stop place last left s state (omega arith) o) ∙ ap Count m
+        told_open l = let w = same in let m : min left q ≡ min left t = omega arith in ap told (gives_open M R stop place last left s state (omega arith) o) ∙ ap Ok m
 
       module _ (c : unclosed ≡ false) where
         whole : t ≡ q
         whole = counted ∙ ap (λ (d : ℕ). length (until_stop M stop d s)) (looked_closed g.limit left unclosed c)
 
-        pub told-closed : 0 < t → t ≤ g.limit → said ≡ Count t
+        pub told-closed : 0 < t → t ≤ g.limit → said ≡ Ok t
         unfolding told
-        told-closed l w = let e = whole in ap told (gives_closed M R stop place last left s state (omega arith) c (omega arith)) ∙ ap Count (sym e)
+        told-closed l w = let e = whole in ap told (gives_closed M R stop place last left s state (omega arith) c (omega arith)) ∙ ap Ok (sym e)
 
-        pub told_endless : g.limit < t → said ≡ Refused (SeedEndless place)
+        pub told_endless : g.limit < t → said ≡ Err (SeedEndless place)
         unfolding told
         told_endless l = let e = whole in ap told (gives_endless M R stop place last left s state (omega arith) c (omega arith))
 
-      pub told_at_stop : t ≡ 0 → said ≡ Refused (SeedAtStop place)
+      pub told_at_stop : t ≡ 0 → said ≡ Err (SeedAtStop place)
       unfolding told
       told_at_stop z = ap told (gives_none M R stop place last left s state (go unclosed refl))
         where

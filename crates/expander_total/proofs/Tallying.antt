@@ -4,6 +4,7 @@
 --     tallied_refused, tallied_nothing, tallied_more     the next one is refused; it has nothing left to deliver; it delivers its slices
 --     few_more                        it delivers at most the limit
 -- Assumes nothing.
+use Rattle.std.specs.Prelude.{Err, Ok, Result}
 use mathlib.Core.Path.{◌≡◌, refl, sym, ap, ◌∙◌}
 use mathlib.Core.List.{List}
 use Prim.Native.Nat.{ℕ, ◌+◌, ◌-◌, ◌≤◌, ◌<◌}
@@ -12,8 +13,6 @@ use lib.Dec.{eqb}
 use lib.ListN.{length, get_or, drop, drop_of_length-le, length-append}
 use Rattle.refusal_causes.specs.declared.Cause.{Cause}
 use Rattle.refusal_causes.specs.declared.Cause.TheVariants.{Total}
-use Rattle.refusal_causes.specs.declared.Written.{Written}
-use Rattle.refusal_causes.specs.declared.Written.TheVariants.{Count, Refused}
 use Rattle.machine_settings.specs.declared.Settings.{Settings}
 use Rattle.machine_settings.specs.Machine.{Machine, machine}
 use Rattle.machine_slices.specs.declared.TestSlice.{TestSlice}
@@ -29,7 +28,7 @@ use Rattle.expander_total.specs.Tally.{tally}
 
 tally-after : (total : ℕ) (vs : List ℕ) (w : Walk) → tally total (after vs w) ≡ tally (total + length vs) w
 unfolding tally after
-tally-after total vs (ran ws) = ap Count (let l = length-append vs ws in omega arith)
+tally-after total vs (ran ws) = ap Ok (let l = length-append vs ws in omega arith)
 tally-after total vs (failed c) = refl
 
 module _ (g : Settings) (masks : List ℕ) (stop : TestSlice) (seeds : List ℕ) (n : ℕ) where
@@ -39,7 +38,7 @@ module _ (g : Settings) (masks : List ℕ) (stop : TestSlice) (seeds : List ℕ)
   abbrev R : Rules
   R = rules g stop
 
-  abbrev whole : Written
+  abbrev whole : Result ℕ Cause
   whole = tally 0 (walk M R n 0 0 seeds)
 
   abbrev pub Tallied : ℕ → ℕ → Type 0
@@ -49,23 +48,23 @@ module _ (g : Settings) (masks : List ℕ) (stop : TestSlice) (seeds : List ℕ)
   tallied_start = refl
 
   module _ (place total : ℕ) (so_far : Tallied place total) where
-    pub tallied_end : length seeds ≤ place → whole ≡ Count total
+    pub tallied_end : length seeds ≤ place → whole ≡ Ok total
     unfolding walk tally
-    tallied_end h = so_far ∙ rw (drop_of_length-le seeds h) (ap Count (omega arith))
+    tallied_end h = so_far ∙ rw (drop_of_length-le seeds h) (ap Ok (omega arith))
 
-    module _ (there : place < length seeds) (w : Written) (left : ℕ) (owed : left ≡ n - total) (run : w ≡ told (delivers M R stop place (eqb (place + 1) (length seeds)) left (get_or seeds place 0))) where
+    module _ (there : place < length seeds) (w : Result ℕ Cause) (left : ℕ) (owed : left ≡ n - total) (run : w ≡ told (delivers M R stop place (eqb (place + 1) (length seeds)) left (get_or seeds place 0))) where
       said : w ≡ told (given g masks stop seeds n place total)
       said = run ∙ ap (λ (k : ℕ). told (delivers M R stop place (eqb (place + 1) (length seeds)) k (get_or seeds place 0))) owed
 
-      pub tallied_refused : (c : Cause) → w ≡ Refused c → whole ≡ Refused c
+      pub tallied_refused : (c : Cause) → w ≡ Err c → whole ≡ Err c
       unfolding tally
       tallied_refused c e = so_far ∙ ap (tally total) (walk_refused g masks stop seeds n place total there c (told_refused _ c (sym said ∙ e)))
 
-      module _ (m : ℕ) (e : w ≡ Count m) where
+      module _ (m : ℕ) (e : w ≡ Ok m) where
         gave : given g masks stop seeds n place total ≡ gives m
         gave = told-count _ m (sym said ∙ e)
 
-        pub tallied_nothing : m ≡ 0 → whole ≡ Refused (Total total)
+        pub tallied_nothing : m ≡ 0 → whole ≡ Err (Total total)
         unfolding tally
         tallied_nothing z = so_far ∙ ap (tally total) (walk_nothing g masks stop seeds n place total there (gave ∙ ap gives z))
 

@@ -3,32 +3,28 @@
 --     seed_answer_of seed             number 0 with the seed, or the number and value of the refusal, and seed 0
 --     cubes_answer_of encoded         number 0 with the seeds written and the stop slice, or the number and value of the refusal, and no position
 --     text_answer_of answer           number 0 with the bytes written and their seeds or slices, or the number and value of the refusal, and the seeds or slices beside it
-use Rattle.refusal_causes.specs.Sheet.{refusal_of}
-use Rattle.refusal_causes.specs.declared.Written.{Written}
-use Rattle.theory_covering.specs.declared.Seed.{Seed}
+use Rattle.text_replies.specs.Calls as text_replies
 use Rattle.encoder_meaning.specs.declared.Encoded.{Encoded}
-use Rattle.text_replies.specs.declared.Answer as text_answer
-use Rattle.refusal_causes.specs.declared.Written.TheVariants as written
-use Rattle.theory_covering.specs.declared.Seed.TheVariants as seed
-use Rattle.encoder_meaning.specs.declared.Encoded.TheVariants as encoded
-use Rattle.text_replies.specs.declared.Answer.TheVariants as texts
+use Rattle.std.specs.Prelude.{Err, Ok, Result, ℕ}
+use Rattle.refusal_causes.specs.declared.Cause.{Cause}
+use Rattle.refusal_causes.specs.Sheet.{refusal_of}
 use Rattle.face_answers.specs.declared.Answer.{Answer}
 use Rattle.face_answers.specs.declared.SeedAnswer.{SeedAnswer}
 use Rattle.face_answers.specs.declared.CubesAnswer.{CubesAnswer}
 use Rattle.face_answers.specs.declared.TextAnswer.{TextAnswer}
 
-abbrev pub answer_of : Written → Answer
-answer_of (written.Count n) = record { number = 0; value = n }
-answer_of (written.Refused c) = record { number = (refusal_of c).number; value = (refusal_of c).value }
+abbrev pub answer_of : Result ℕ Cause → Answer
+answer_of (Ok n) = record { number = 0; value = n }
+answer_of (Err c) = record { number = (refusal_of c).number; value = (refusal_of c).value }
 
-abbrev pub seed_answer_of : Seed → SeedAnswer
-seed_answer_of (seed.Lowest s) = record { number = 0; value = 0; seed = s }
-seed_answer_of (seed.Refused c) = record { number = (refusal_of c).number; value = (refusal_of c).value; seed = 0 }
+abbrev pub seed_answer_of : Result ℕ Cause → SeedAnswer
+seed_answer_of (Ok s) = record { number = 0; value = 0; seed = s }
+seed_answer_of (Err c) = record { number = (refusal_of c).number; value = (refusal_of c).value; seed = 0 }
 
-abbrev pub cubes_answer_of : Encoded → CubesAnswer
-cubes_answer_of (encoded.Seeds stop n) = record { number = 0; value = n; specified = stop.specified; bits = stop.bits }
-cubes_answer_of (encoded.Refused c) = record { number = (refusal_of c).number; value = (refusal_of c).value; specified = 0; bits = 0 }
+abbrev pub cubes_answer_of : Result Encoded Cause → CubesAnswer
+cubes_answer_of (Ok e) = record { number = 0; value = e.seeds; specified = e.stop.specified; bits = e.stop.bits }
+cubes_answer_of (Err c) = record { number = (refusal_of c).number; value = (refusal_of c).value; specified = 0; bits = 0 }
 
-abbrev pub text_answer_of : text_answer.Answer → TextAnswer
-text_answer_of (texts.Text bytes entries) = record { number = 0; value = bytes; entries = entries }
-text_answer_of (texts.Refused r n) = record { number = r.number; value = r.value; entries = n }
+abbrev pub text_answer_of : text_replies.Answer → TextAnswer
+text_answer_of (Ok t) = record { number = 0; value = t.bytes; entries = t.entries }
+text_answer_of (Err t) = record { number = t.refusal.number; value = t.refusal.value; entries = t.entries }

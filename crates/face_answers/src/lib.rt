@@ -5,8 +5,8 @@ ghost use Rattle.std.specs.Prelude.{◌≡◌};
 ghost use Rattle.face_answers.specs.Answers.{answer_of, cubes_answer_of, seed_answer_of, text_answer_of};
 
 use encoder_meaning::Encoded;
-use refusal_causes::Written;
-use theory_covering::Seed;
+use refusal_causes::{Cause, Refusal};
+use text_replies::{TextRefused, TextWritten};
 
 // The answer of a call that writes into a lent buffer: number 0 with the entries written, or the number and value of the refusal.
 #[repr(C)]
@@ -45,16 +45,16 @@ pub struct TextAnswer {
 }
 
 // The number and value of a call that writes.
-pub fn answer_of(written: Written) -> Answer
+pub fn answer_of(written: Result<usize, Cause>) -> Answer
     ensures { result ≡ answer_of written }
 {
     match written {
-        Written::Count(count) => Answer {
+        Ok(count) => Answer {
             number: 0,
             value: count,
         },
-        Written::Refused(cause) => {
-            let refusal = refusal_causes::refusal_of(cause);
+        Err(cause) => {
+            let refusal = Refusal::from(cause);
             Answer {
                 number: refusal.number,
                 value: refusal.value,
@@ -64,17 +64,17 @@ pub fn answer_of(written: Written) -> Answer
 }
 
 // The number, value and seed of a call for one.
-pub fn seed_answer_of(seed: Seed) -> SeedAnswer
+pub fn seed_answer_of(seed: Result<u64, Cause>) -> SeedAnswer
     ensures { result ≡ seed_answer_of seed }
 {
     match seed {
-        Seed::Lowest(state) => SeedAnswer {
+        Ok(state) => SeedAnswer {
             number: 0,
             value: 0,
             seed: state,
         },
-        Seed::Refused(cause) => {
-            let refusal = refusal_causes::refusal_of(cause);
+        Err(cause) => {
+            let refusal = Refusal::from(cause);
             SeedAnswer {
                 number: refusal.number,
                 value: refusal.value,
@@ -85,18 +85,18 @@ pub fn seed_answer_of(seed: Seed) -> SeedAnswer
 }
 
 // The number, value and stop slice of a call for cubes.
-pub fn cubes_answer_of(encoded: Encoded) -> CubesAnswer
+pub fn cubes_answer_of(encoded: Result<Encoded, Cause>) -> CubesAnswer
     ensures { result ≡ cubes_answer_of encoded }
 {
     match encoded {
-        Encoded::Seeds(slice, seeds) => CubesAnswer {
+        Ok(list) => CubesAnswer {
             number: 0,
-            value: seeds,
-            specified: slice.specified,
-            bits: slice.bits,
+            value: list.seeds,
+            specified: list.stop.specified,
+            bits: list.stop.bits,
         },
-        Encoded::Refused(cause) => {
-            let refusal = refusal_causes::refusal_of(cause);
+        Err(cause) => {
+            let refusal = Refusal::from(cause);
             CubesAnswer {
                 number: refusal.number,
                 value: refusal.value,
@@ -108,19 +108,19 @@ pub fn cubes_answer_of(encoded: Encoded) -> CubesAnswer
 }
 
 // The number, value and entries of a text call.
-pub fn text_answer_of(answer: text_replies::Answer) -> TextAnswer
+pub fn text_answer_of(answer: Result<TextWritten, TextRefused>) -> TextAnswer
     ensures { result ≡ text_answer_of answer }
 {
     match answer {
-        text_replies::Answer::Text(bytes, entries) => TextAnswer {
+        Ok(text) => TextAnswer {
             number: 0,
-            value: bytes,
-            entries,
+            value: text.bytes,
+            entries: text.entries,
         },
-        text_replies::Answer::Refused(refusal, entries) => TextAnswer {
-            number: refusal.number,
-            value: refusal.value,
-            entries,
+        Err(told) => TextAnswer {
+            number: told.refusal.number,
+            value: told.refusal.value,
+            entries: told.entries,
         },
     }
 }

@@ -8,17 +8,16 @@ ghost use Rattle.face_values.specs.Values.{settings_of, test_slice_of};
 ghost use Rattle.face_checks.specs.Verdicts.{number_of};
 
 use face_values::Settings;
-use machine_slices::TestSlice;
-use refusal_order::Verdict;
+use refusal_causes::{Cause, Refusal};
 
 // The number of a verdict: 0 where nothing is refused.
-fn number(verdict: Verdict) -> usize
+fn number(verdict: Result<(), Cause>) -> usize
     ensures { result ≡ number_of verdict }
 {
     match verdict {
-        Verdict::WellFormed => 0,
-        Verdict::Refused(cause) => {
-            let refusal = refusal_causes::refusal_of(cause);
+        Ok(()) => 0,
+        Err(cause) => {
+            let refusal = Refusal::from(cause);
             refusal.number
         }
     }
@@ -35,11 +34,8 @@ pub fn check_window(
 ) -> usize
     ensures { result ≡ number_of (judged (window_faults (settings_of settings) masks.now (test_slice_of stop_specified stop_bits) specified.now bits.now)) }
 {
-    let stop = TestSlice {
-        specified: stop_specified,
-        bits: stop_bits,
-    };
-    let given = face_values::settings_of(settings);
+    let stop = face_values::test_slice_of(stop_specified, stop_bits);
+    let given = machine_settings::Settings::from(settings);
     number(refusal_checks::check_window(given, masks, stop, specified, bits))
 }
 
@@ -54,11 +50,8 @@ pub fn check_set(
 ) -> usize
     ensures { result ≡ number_of (judged (set_faults (settings_of settings) masks.now (test_slice_of stop_specified stop_bits) specified.now bits.now)) }
 {
-    let stop = TestSlice {
-        specified: stop_specified,
-        bits: stop_bits,
-    };
-    let given = face_values::settings_of(settings);
+    let stop = face_values::test_slice_of(stop_specified, stop_bits);
+    let given = machine_settings::Settings::from(settings);
     number(refusal_checks::check_set(given, masks, stop, specified, bits))
 }
 
@@ -72,7 +65,7 @@ pub fn check_cubes(
 ) -> usize
     ensures { result ≡ number_of (judged (cubes_faults (settings_of settings) masks.now depth specified.now bits.now)) }
 {
-    let given = face_values::settings_of(settings);
+    let given = machine_settings::Settings::from(settings);
     number(refusal_checks::check_cubes(given, masks, depth, specified, bits))
 }
 
@@ -94,10 +87,7 @@ pub fn check_list(
 ) -> usize
     ensures { result ≡ number_of (judged (list_faults (settings_of settings) masks.now (test_slice_of stop_specified stop_bits) slices seeds)) }
 {
-    let stop = TestSlice {
-        specified: stop_specified,
-        bits: stop_bits,
-    };
-    let given = face_values::settings_of(settings);
+    let stop = face_values::test_slice_of(stop_specified, stop_bits);
+    let given = machine_settings::Settings::from(settings);
     number(refusal_checks::check_list(given, masks, stop, slices, seeds))
 }

@@ -11,7 +11,6 @@ ghost use Rattle.face_answers.specs.Answers.{answer_of, cubes_answer_of};
 
 use face_answers::{Answer, CubesAnswer};
 use face_values::Settings;
-use machine_slices::TestSlice;
 
 // The seeds of a set with its stop slice, written into the buffer: causes 1 to 5, then 8, then 9.
 pub fn encode_set(
@@ -27,11 +26,8 @@ pub fn encode_set(
     ensures buffer { out.new ≡ (encode_set (settings_of settings) masks.now (test_slice_of stop_specified stop_bits) specified.now bits.now out.old).buffer }
     ensures meaning { SetMeaning (settings_of settings) masks.now (test_slice_of stop_specified stop_bits) specified.now bits.now out.old (encode_set (settings_of settings) masks.now (test_slice_of stop_specified stop_bits) specified.now bits.now out.old) }
 {
-    let stop = TestSlice {
-        specified: stop_specified,
-        bits: stop_bits,
-    };
-    let given = face_values::settings_of(settings);
+    let stop = face_values::test_slice_of(stop_specified, stop_bits);
+    let given = machine_settings::Settings::from(settings);
     let written = encoder_sets::encode_set(given, masks, stop, specified, bits, out);
     face_answers::answer_of(written)
 }
@@ -49,7 +45,7 @@ pub fn encode_cubes(
     ensures buffer { out.new ≡ (encode_cubes (settings_of settings) masks.now depth specified.now bits.now out.old).buffer }
     ensures meaning { CubesMeaning (settings_of settings) masks.now depth specified.now bits.now out.old (encode_cubes (settings_of settings) masks.now depth specified.now bits.now out.old) }
 {
-    let given = face_values::settings_of(settings);
+    let given = machine_settings::Settings::from(settings);
     let encoded = encoder_cubes::encode_cubes(given, masks, depth, specified, bits, out);
     face_answers::cubes_answer_of(encoded)
 }

@@ -8,7 +8,6 @@ ghost use Rattle.face_answers.specs.Answers.{answer_of};
 
 use face_answers::Answer;
 use face_values::Settings;
-use machine_slices::TestSlice;
 
 // The slices of a seed list, written into the buffer: causes 1, 2, 3, 5, then 10, 11, 12 of the first refused seed, then 14, then 9.
 pub fn expand(
@@ -23,11 +22,8 @@ pub fn expand(
     ensures answer { result ≡ answer_of (expand_list (settings_of settings) masks.now (test_slice_of stop_specified stop_bits) slices seeds.now out.old).answer }
     ensures buffer { out.new ≡ (expand_list (settings_of settings) masks.now (test_slice_of stop_specified stop_bits) slices seeds.now out.old).buffer }
 {
-    let stop = TestSlice {
-        specified: stop_specified,
-        bits: stop_bits,
-    };
-    let given = face_values::settings_of(settings);
+    let stop = face_values::test_slice_of(stop_specified, stop_bits);
+    let given = machine_settings::Settings::from(settings);
     let written = expander_list::expand_list(given, masks, stop, slices, seeds, out);
     face_answers::answer_of(written)
 }

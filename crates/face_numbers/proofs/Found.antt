@@ -4,6 +4,7 @@
 --     made_step, lawful_slice                     with a lawful register
 --     refused_step, refused_slice                 with another
 -- Assumes nothing.
+use Rattle.std.specs.Prelude.{Err, Ok, Result}
 use mathlib.Core.Bool.{true, false}
 use mathlib.Core.Path.{◌≡◌, sym, ap, ◌∙◌}
 use mathlib.Core.List.{List, [], ◌∷◌}
@@ -14,7 +15,6 @@ use Rattle.refusal_causes.specs.declared.Cause.{Cause}
 use Rattle.refusal_causes.specs.declared.Cause.TheVariants as cause
 use Rattle.machine_register.specs.Register.{bad_register, made_of, step_of}
 use Rattle.machine_register.specs.declared.Register.{Register}
-use Rattle.machine_register.specs.declared.Made.TheVariants as made
 use Rattle.machine_register.proofs.Causes.{cells_within}
 use Rattle.machine_register.proofs.Making.{made_register, made_refused}
 use Rattle.machine_chains.proofs.Causes.{chains_within}
@@ -22,7 +22,6 @@ use Rattle.machine_settings.specs.declared.Settings.{Settings}
 use Rattle.machine_settings.specs.Machine.{machine, bad_chains_of}
 use Rattle.machine_settings.proofs.Machine.{machine-slice, machine-step, chains_parts}
 use Rattle.refusal_order.specs.Order.{first_of}
-use Rattle.refusal_order.specs.declared.Verdict.{Verdict}
 use Rattle.refusal_order.proofs.Order.{first_here, first_later}
 use Rattle.face_numbers.specs.declared.SliceAnswer.{SliceAnswer}
 use Rattle.face_numbers.specs.States.{no_state, no_slice, state_answer, slice_answer, register_test, chains_test, state_test, step_call, slice_call}
@@ -31,14 +30,14 @@ use Rattle.face_numbers.specs.Found.{step_found, slice_found}
 module _ (r : Register) (s : ℕ) where
   pub beyond_state : beyond r.cells s ≡ true → no_state (cause.SeedBeyond 0) ≡ step_found r s
   unfolding step_found
-  beyond_state h = sym (ap (λ (v : Verdict). state_answer v (step_of r s)) (first_here (state_test r.cells s) [] h))
+  beyond_state h = sym (ap (λ (v : Result (Unit {0}) Cause). state_answer v (step_of r s)) (first_here (state_test r.cells s) [] h))
 
   pub within_state : beyond r.cells s ≡ false → record { number = 0; value = 0; state = step_of r s } ≡ step_found r s
   unfolding step_found first_of
-  within_state h = sym (ap (λ (v : Verdict). state_answer v (step_of r s)) (first_later (state_test r.cells s) [] h))
+  within_state h = sym (ap (λ (v : Result (Unit {0}) Cause). state_answer v (step_of r s)) (first_later (state_test r.cells s) [] h))
 
 module _ (g : Settings) (masks : List ℕ) (s : ℕ) where
-  abbrev found : Verdict → SliceAnswer
+  abbrev found : Result (Unit {0}) Cause → SliceAnswer
   found v = slice_answer v ((machine g masks).slice s)
 
   pub bad_chains_lem : bad_chains_of g masks ≡ true → no_slice cause.Chains ≡ slice_found g masks s
@@ -57,14 +56,14 @@ module _ (g : Settings) (masks : List ℕ) (s : ℕ) where
         (sym (ap found (first_later (chains_test g masks) (state_test g.cells s ∷ []) lawful ∙ first_later (state_test g.cells s) [] h)))
 
 module _ (g : Settings) (s : ℕ) where
-  pub made_step : (r : Register) → made_of g.cells g.taps ≡ made.Register r → step_found r s ≡ step_call g s
+  pub made_step : (r : Register) → made_of g.cells g.taps ≡ Ok r → step_found r s ≡ step_call g s
   unfolding step_found step_call
   made_step r e =
       let m = made_register g.cells g.taps r e in
       rw (m.1, first_later (register_test g) (state_test g.cells s ∷ []) m.0)
       (ap (state_answer (first_of (state_test g.cells s ∷ []))) (machine-step g [] s (cells_within g.cells g.taps m.0).1))
 
-  pub refused_step : (c : Cause) → made_of g.cells g.taps ≡ made.Refused c → no_state c ≡ step_call g s
+  pub refused_step : (c : Cause) → made_of g.cells g.taps ≡ Err c → no_state c ≡ step_call g s
   unfolding step_call
   refused_step c e = let m = made_refused g.cells g.taps c e in rw (m.1, first_here (register_test g) (state_test g.cells s ∷ []) m.0)
 

@@ -4,7 +4,7 @@
 --     register_test, chains_test, state_test     causes 1, 2 and 10; cause 2 also looks at the inverted chains; the state is the one seed that is handed in, so its place is 0
 --     step_call g s                         the state after one step: cause 1, then 10
 --     slice_call g masks s                  the slice: causes 1 and 2, then 10
-use Rattle.std.specs.Prelude.{List, [], ◌∷◌, ℕ}
+use Rattle.std.specs.Prelude.{List, [], ◌∷◌, ℕ, Err, Ok, Result}
 use Rattle.words_gf2.specs.Words.{beyond}
 use Rattle.refusal_causes.specs.declared.Cause.{Cause}
 use Rattle.refusal_causes.specs.declared.Cause.TheVariants as cause
@@ -13,8 +13,6 @@ use Rattle.machine_register.specs.Register.{bad_register, step}
 use Rattle.machine_settings.specs.Machine.{machine, bad_chains_of}
 use Rattle.machine_settings.specs.declared.Settings.{Settings}
 use Rattle.refusal_order.specs.Order.{Test, first_of}
-use Rattle.refusal_order.specs.declared.Verdict.{Verdict}
-use Rattle.refusal_order.specs.declared.Verdict.TheVariants.{WellFormed, Refused}
 use Rattle.face_numbers.specs.declared.StateAnswer.{StateAnswer}
 use Rattle.face_numbers.specs.declared.SliceAnswer.{SliceAnswer}
 
@@ -24,13 +22,13 @@ no_state c = record { number = (refusal_of c).number; value = (refusal_of c).val
 abbrev pub no_slice : Cause → SliceAnswer
 no_slice c = record { number = (refusal_of c).number; value = (refusal_of c).value; slice = 0 }
 
-abbrev pub state_answer : Verdict → ℕ → StateAnswer
-state_answer WellFormed s = record { number = 0; value = 0; state = s }
-state_answer (Refused c) s = no_state c
+abbrev pub state_answer : Result (Unit {0}) Cause → ℕ → StateAnswer
+state_answer (Ok tt) s = record { number = 0; value = 0; state = s }
+state_answer (Err c) s = no_state c
 
-abbrev pub slice_answer : Verdict → ℕ → SliceAnswer
-slice_answer WellFormed s = record { number = 0; value = 0; slice = s }
-slice_answer (Refused c) s = no_slice c
+abbrev pub slice_answer : Result (Unit {0}) Cause → ℕ → SliceAnswer
+slice_answer (Ok tt) s = record { number = 0; value = 0; slice = s }
+slice_answer (Err c) s = no_slice c
 
 abbrev pub register_test : Settings → Test
 register_test g = record { holds = bad_register g.cells g.taps; refused = cause.Register }

@@ -10,9 +10,9 @@ ghost use Rattle.face_numbers.specs.Found.{step_found, slice_found};
 ghost use Rattle.face_numbers.specs.Stop.{stop_answer_of};
 
 use face_values::Settings;
-use machine_register::{Made, Register};
-use refusal_causes::Cause;
-use stop_slice::Formed;
+use machine_register::Register;
+use machine_slices::TestSlice;
+use refusal_causes::{Cause, Refusal};
 
 // The answer of the call for a step: number 0 with the state after it, or the number and value of the refusal, and state 0.
 #[repr(C)]
@@ -46,7 +46,7 @@ pub struct StopAnswer {
 fn no_state(cause: Cause) -> StateAnswer
     ensures { result ≡ no_state cause }
 {
-    let refusal = refusal_causes::refusal_of(cause);
+    let refusal = Refusal::from(cause);
     StateAnswer {
         number: refusal.number,
         value: refusal.value,
@@ -58,7 +58,7 @@ fn no_state(cause: Cause) -> StateAnswer
 fn no_slice(cause: Cause) -> SliceAnswer
     ensures { result ≡ no_slice cause }
 {
-    let refusal = refusal_causes::refusal_of(cause);
+    let refusal = Refusal::from(cause);
     SliceAnswer {
         number: refusal.number,
         value: refusal.value,
@@ -85,8 +85,8 @@ pub fn step(settings: Settings, state: u64) -> StateAnswer
     ensures { result ≡ step_call (settings_of settings) state }
 {
     match Register::new(settings.cells, settings.taps) {
-        Made::Register(register) => step_found(register, state),
-        Made::Refused(cause) => no_state(cause),
+        Ok(register) => step_found(register, state),
+        Err(cause) => no_state(cause),
     }
 }
 
@@ -114,22 +114,22 @@ pub fn slice(settings: Settings, masks: &[u64], state: u64) -> SliceAnswer
     if machine_register::bad_register(settings.cells, settings.taps) {
         return no_slice(Cause::Register);
     }
-    slice_found(face_values::settings_of(settings), masks, state)
+    slice_found(settings.into(), masks, state)
 }
 
 // The number, value and stop slice of a call for one.
-fn stop_answer_of(formed: Formed) -> StopAnswer
+fn stop_answer_of(formed: Result<TestSlice, Cause>) -> StopAnswer
     ensures { result ≡ stop_answer_of formed }
 {
     match formed {
-        Formed::Stop(stop) => StopAnswer {
+        Ok(stop) => StopAnswer {
             number: 0,
             value: 0,
             specified: stop.specified,
             bits: stop.bits,
         },
-        Formed::Refused(cause) => {
-            let refusal = refusal_causes::refusal_of(cause);
+        Err(cause) => {
+            let refusal = Refusal::from(cause);
             StopAnswer {
                 number: refusal.number,
                 value: refusal.value,

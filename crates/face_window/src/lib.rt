@@ -8,7 +8,6 @@ ghost use Rattle.face_answers.specs.Answers.{seed_answer_of};
 
 use face_answers::SeedAnswer;
 use face_values::Settings;
-use machine_slices::TestSlice;
 
 // The seed of a window: causes 1 to 5, then 7.
 pub fn window_seed(
@@ -22,11 +21,8 @@ pub fn window_seed(
     ensures answer { result ≡ seed_answer_of (window_seed (settings_of settings) masks.now (test_slice_of stop_specified stop_bits) specified.now bits.now) }
     ensures meaning { WindowMeaning (settings_of settings) masks.now (test_slice_of stop_specified stop_bits) specified.now bits.now (window_seed (settings_of settings) masks.now (test_slice_of stop_specified stop_bits) specified.now bits.now) }
 {
-    let stop = TestSlice {
-        specified: stop_specified,
-        bits: stop_bits,
-    };
-    let given = face_values::settings_of(settings);
+    let stop = face_values::test_slice_of(stop_specified, stop_bits);
+    let given = machine_settings::Settings::from(settings);
     let seed = window_single::window_seed(given, masks, stop, specified, bits);
     face_answers::seed_answer_of(seed)
 }

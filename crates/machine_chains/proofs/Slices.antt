@@ -1,17 +1,19 @@
 -- Laws of the slice of a state.
 --     slice_below        a slice stays below 2 ^ chains
 --     slice-digit        chain by chain: the bit of a chain is the parity under its mask
---     slice_more         one mask more
---     slice-start, slice-next, slice-room     of a loop that goes down through the first 64 masks
+--     Read               the masks that a loop has read, from the last of the first 64 down, have given their bits
+--     read_start, read_next, read_room, read_end     its laws
 -- Assumes nothing.
-use mathlib.Core.Path.{◌≡◌, sym, ap, ◌∙◌}
-use mathlib.Core.List.{List, [], ◌∷◌}
-use Prim.Native.Nat.{ℕ, zero, suc, ◌+◌, ◌-◌, ◌*◌, ◌/◌, ◌^◌, ◌≤◌, ◌<◌, min}
+use mathlib.Core.Path.{◌≡◌, refl, sym, ap, ◌∙◌}
+use mathlib.Core.List.{List, [], ◌∷◌, ◌++◌}
+use Prim.Native.Nat.{ℕ, zero, suc, ◌+◌, ◌*◌, ◌/◌, ◌^◌, ◌≤◌, ◌<◌, min}
 use native.Mathlib.Nat.{not-suc-le-zero, le_of_suc-le-suc}
 use native.Mathlib.Omega.{arith}
-use lib.ListN.{length, get_or, take, drop, length-take, length-drop, drop_of_length-le}
+use lib.ListN.{length, get_or, take, length-take, length-append}
 use lib.Pow.{pow_mono}
-use lib.Seq.{drop-cons, get_or-take}
+use Rattle.std.proofs.Common.{append_assoc}
+use Rattle.std.proofs.lemmas.List.{append-nil}
+use Rattle.words_bounded.proofs.Front.{take-lesser}
 use Rattle.words_gf2.specs.Words.{digit, odd}
 use Rattle.words_gf2.proofs.Digits.{digit_zero, digit-suc}
 use Rattle.words_gf2.proofs.Parity.{odd_lt}
@@ -33,29 +35,39 @@ slice-digit (m ∷ ms) s (suc j) h =
     let d : (odd s m + 2 * slice ms s) / 2 ≡ slice ms s = (let l = odd_lt s m in omega arith) in
     digit-suc (odd s m + 2 * slice ms s) j ∙ ap (λ (x : ℕ). digit x j) d ∙ slice-digit ms s j (le_of_suc-le-suc h)
 
-slice_more : (masks : List ℕ) (s i : ℕ) → i < length masks → slice (drop i masks) s ≡ slice (drop (suc i) masks) s * 2 + odd s (get_or masks i 0)
-unfolding slice
-slice_more masks s i h = rw (drop-cons masks i 0 h) (omega arith)
-
 -- ---- a loop that goes down through the first 64 masks
 
-pub slice-start : (masks : List ℕ) (s n : ℕ) → n ≡ min 64 (length masks) → 0 ≡ slice (drop n (take 64 masks)) s
-unfolding slice
-slice-start masks s n e = rw (drop_of_length-le (take 64 masks) {i = n} (let l = length-take 64 masks in omega arith))
+none_left : (l : List ℕ) → length l ≡ 0 → l ≡ []
+none_left [] z = refl
+none_left (x ∷ l) z = absurd (omega arith)
 
-pub slice-next : (masks : List ℕ) (s i : ℕ) → 0 < i → i ≤ min 64 (length masks)
-    → slice (drop i (take 64 masks)) s * 2 + odd s (get_or masks (i - 1) 0) ≡ slice (drop (i - 1) (take 64 masks)) s
-slice-next masks s i h l =
-    let e : suc (i - 1) ≡ i = omega arith in
-    let w : i - 1 < length (take 64 masks) = (let t = length-take 64 masks in omega arith) in
-    sym (slice_more (take 64 masks) s (i - 1) w
-    ∙ ap (λ (k : ℕ). slice (drop k (take 64 masks)) s * 2 + odd s (get_or (take 64 masks) (i - 1) 0)) e
-    ∙ ap (λ (m : ℕ). slice (drop i (take 64 masks)) s * 2 + odd s m) (get_or-take 64 masks (i - 1) 0 (omega arith)))
+-- the masks that are left and those that have given their bits are the first 64
+pub record Read (masks : List ℕ) (s : ℕ) (left : List ℕ) (bits : ℕ) : Type 0 where
+  pub given : List ℕ
+  pub whole : left ++ given ≡ take 64 masks
+  pub slice_is : bits ≡ slice given s
 
--- one more bit fits a word
-pub slice-room : (masks : List ℕ) (s i : ℕ) → 0 < i → slice (drop i (take 64 masks)) s * 2 + 1 < 2 ^ 64
-slice-room masks s i h =
-    let b = slice_below (drop i (take 64 masks)) s in
-    let p : 2 ^ length (drop i (take 64 masks)) ≤ 2 ^ 63 =
-    pow_mono {i = length (drop i (take 64 masks))} {j = 63} (let t = length-take 64 masks in let d = length-drop i (take 64 masks) in omega arith) in
-    omega arith
+module _ (masks : List ℕ) (s : ℕ) where
+  pub read_start : (n : ℕ) → n ≡ min 64 (length masks) → Read masks s (take n masks) 0
+  unfolding slice
+  read_start n e = record { given = []; whole = rw (e, append-nil) (take-lesser 64 masks); slice_is = refl }
+
+  module _ (left : List ℕ) (bits : ℕ) (r : Read masks s left bits) where
+    pub read_end : length left ≡ 0 → bits ≡ slice (take 64 masks) s
+    read_end z = r.slice_is ∙ ap (λ (l : List ℕ). slice l s) (ap (λ (l : List ℕ). l ++ r.given) (sym (none_left left z)) ∙ r.whole)
+
+    module _ (rest : List ℕ) (m : ℕ) (e : left ≡ rest ++ (m ∷ [])) where
+      given_longer : rest ++ (m ∷ r.given) ≡ take 64 masks
+      given_longer = sym (append_assoc rest (m ∷ []) r.given) ∙ rw (← e) r.whole
+
+      pub read_next : Read masks s rest (bits * 2 + odd s m)
+      unfolding slice
+      read_next = record { given = m ∷ r.given; whole = given_longer; slice_is = rw r.slice_is (omega arith) }
+
+      -- one more bit fits a word
+      pub read_room : bits * 2 + 1 < 2 ^ 64
+      read_room =
+          let few : length r.given < 64 = omega (arith, ap length given_longer, length-append rest (m ∷ r.given), length-take 64 masks) in
+          let b = slice_below r.given s in
+          let p : 2 ^ length r.given ≤ 2 ^ 63 = pow_mono {i = length r.given} {j = 63} (omega arith) in
+          omega (arith, r.slice_is)

@@ -29,14 +29,7 @@ pub fn bad_mask(cells: usize, mask: u64) -> bool
 fn some_bad_mask(cells: usize, masks: &[u64]) -> bool
     ensures { result ≡ any (bad_mask cells) masks.now }
 {
-    let mut i = 0;
-    while i < masks.len() {
-        if bad_mask(cells, masks[i]) {
-            return true;
-        }
-        i += 1;
-    }
-    false
+    masks.iter().any(|&mask| bad_mask(cells, mask))
 }
 
 // Whether cause 2 holds: chains not 1 to 64, or a bad mask.
@@ -53,11 +46,10 @@ pub fn bad_chains(cells: usize, masks: &[u64]) -> bool
 pub fn slice(masks: &[u64], state: u64) -> u64
     ensures { result ≡ slice_of (take 64 masks.now) state }
 {
-    let mut left = words_bounded::lesser(MOST_CHAINS, masks.len());
+    let count = MOST_CHAINS.min(masks.len());
     let mut bits: u64 = 0;
-    while 0 < left {
-        left -= 1;
-        bits = bits * 2 + words_gf2::odd(state, masks[left]);
+    for &mask in masks[..count].iter().rev() {
+        bits = bits * 2 + words_gf2::odd(state, mask);
     }
     bits
 }

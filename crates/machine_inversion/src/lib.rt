@@ -35,13 +35,11 @@ pub fn flip_bits(invert: u64, specified: &[u64], bits: &[u64], out: &mut [u64])
     requires { (length specified.now ≡ length bits.now) × (length bits.now ≤ length out.old) }
     ensures { out.new ≡ flipped_bits invert specified.now bits.now ++ drop (length bits.now) out.old }
 {
-    let mut i = 0;
-    while i < bits.len() {
+    for i in 0..bits.len() {
         let test = TestSlice {
             specified: specified[i],
             bits: bits[i],
         };
         out[i] = flip(invert, test).bits;
-        i += 1;
     }
 }

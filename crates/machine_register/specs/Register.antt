@@ -6,14 +6,13 @@
 --     made_of cells taps            what the constructor answers
 --     step_of r s                   the step of a register that the code holds; one of more than 64 cells, which the constructor never makes, counts as 64
 --     pull taps m, pulls taps t m  the mask that reads before one step, before t steps, what m reads after
-use Rattle.std.specs.Prelude.{Bool, true, false, not, ◌||◌, ℕ, zero, suc, ◌+◌, ◌-◌, ◌*◌, ◌/◌, ◌%◌, ◌^◌, min, eqb}
+use Rattle.refusal_causes.specs.declared.Cause.{Cause}
+use Rattle.std.specs.Prelude.{Bool, true, false, not, ◌||◌, ℕ, zero, suc, ◌+◌, ◌-◌, ◌*◌, ◌/◌, ◌%◌, ◌^◌, min, eqb, Err, Ok, Result}
 use Rattle.std.specs.Int.Bits.{bit_xor}
 use Rattle.words_bounded.specs.Bounded.{within}
 use Rattle.words_gf2.specs.Words.{digit, odd, beyond}
 use Rattle.refusal_causes.specs.declared.Cause.TheVariants as cause
 use Rattle.machine_register.specs.declared.Register.{Register}
-use Rattle.machine_register.specs.declared.Made.{Made}
-use Rattle.machine_register.specs.declared.Made.TheVariants as made
 
 abbrev pub most_cells : ℕ
 most_cells = 64
@@ -30,10 +29,10 @@ steps cells taps (suc t) s = step cells taps (steps cells taps t s)
 unfoldable pub bad_register : ℕ → ℕ → Bool
 bad_register cells taps = not (within 1 most_cells cells) || (beyond cells taps || eqb (digit taps (cells - 1)) 0)
 
-unfoldable pub made_of : ℕ → ℕ → Made
+unfoldable pub made_of : ℕ → ℕ → Result Register Cause
 made_of cells taps = elim (bad_register cells taps) [
-  | true ↦ made.Refused cause.Register
-  | false ↦ made.Register (record { cells = cells; taps = taps })
+  | true ↦ Err cause.Register
+  | false ↦ Ok (record { cells = cells; taps = taps })
 ]
 
 unfoldable pub step_of : Register → ℕ → ℕ

@@ -13,13 +13,6 @@ pub struct Register {
     pub taps: u64,
 }
 
-// What the constructor answers: the register, or cause 1.
-#[derive(Clone, Copy)]
-pub enum Made {
-    Register(Register),
-    Refused(Cause),
-}
-
 impl Register {
     // The most cells.
     pub const MOST_CELLS: usize = 64;
@@ -27,13 +20,13 @@ impl Register {
     pub const LONGEST_WINDOW: usize = 256;
 
     // The register of these cells and taps, where they are lawful.
-    pub fn new(cells: usize, taps: u64) -> Made
+    pub fn new(cells: usize, taps: u64) -> Result<Register, Cause>
         ensures { result ≡ made_of cells taps }
     {
         if bad_register(cells, taps) {
-            return Made::Refused(Cause::Register);
+            return Err(Cause::Register);
         }
-        Made::Register(Register { cells, taps })
+        Ok(Register { cells, taps })
     }
 
     // One step. Twice a state need not fit a word, so its top cell goes out first.

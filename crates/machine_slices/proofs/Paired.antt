@@ -4,8 +4,10 @@
 --     paired_from       from a place on: the test slice there, and those that follow
 --     paired-past       past the end of the shorter list there is none
 --     paired_few        no more than the first list has
+--     paired_any        a test of the test slices, as std's test of the pairs
 -- Assumes nothing.
 use mathlib.Core.Path.{◌≡◌, refl, ap}
+use mathlib.Core.Bool.{Bool}
 use mathlib.Core.List.{List, [], ◌∷◌}
 use mathlib.Core.Logic.{⊎_elim}
 use Prim.Native.Nat.{ℕ, zero, suc, ◌+◌, ◌≤◌, ◌<◌, min}
@@ -14,6 +16,8 @@ use native.Mathlib.Numerals.{add-one}
 use native.Mathlib.Omega.{arith}
 use lib.ListN.{length, get_or, drop, drop_of_length-le}
 use lib.Seq.{drop-cons}
+use Rattle.std.specs.List.{list_any, zip}
+use Rattle.words_bounded.specs.Bounded.{any}
 use Rattle.words_bounded.proofs.Tests.{lt_or_le}
 use Rattle.machine_slices.specs.Slices.{paired}
 use Rattle.machine_slices.specs.declared.TestSlice.{TestSlice}
@@ -51,3 +55,13 @@ unfolding paired
 paired_few [] bs = omega arith
 paired_few (p ∷ ps) [] = omega arith
 paired_few (p ∷ ps) (b ∷ bs) = omega (arith, paired_few ps bs)
+
+module _ (test : TestSlice → Bool) where
+  abbrev pub on_pair : ℕ × ℕ → Bool
+  on_pair p = test (record { specified = p.0; bits = p.1 })
+
+  pub paired_any : (ps bs : List ℕ) → any test (paired ps bs) ≡ list_any on_pair (zip ps bs)
+  unfolding paired any
+  paired_any [] bs = refl
+  paired_any (p ∷ ps) [] = refl
+  paired_any (p ∷ ps) (b ∷ bs) = rw (paired_any ps bs)

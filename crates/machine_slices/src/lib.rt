@@ -5,7 +5,7 @@ ghost use Rattle.std.specs.Prelude.{◌≡◌};
 ghost use Rattle.machine_slices.specs.Slices.{agrees as agrees_of, shows as shows_of, bad_slice, bad_slices, bad_stop};
 
 // A test slice or stop slice: its specified positions, and its bits there.
-#[derive(Clone, Copy)]
+#[derive(Clone, Copy, PartialEq, Eq)]
 pub struct TestSlice {
     pub specified: u64,
     pub bits: u64,
@@ -45,18 +45,9 @@ pub fn bad_slices(chains: usize, specified: &[u64], bits: &[u64]) -> bool
     if specified.len() != bits.len() {
         return true;
     }
-    let mut i = 0;
-    while i < specified.len() {
-        let test = TestSlice {
-            specified: specified[i],
-            bits: bits[i],
-        };
-        if bad_slice(chains, test) {
-            return true;
-        }
-        i += 1;
-    }
-    false
+    specified.iter().zip(bits).any(|(&specified, &bits)| {
+        bad_slice(chains, TestSlice { specified, bits })
+    })
 }
 
 // Whether cause 5 holds: a stop slice with no specified position, or formed as in cause 4.

@@ -1,6 +1,5 @@
 -- Every cause has a number of the refusal sheet.
 -- Assumes nothing.
-use Prim.Native.Nat.{ℕ, ◌≤◌}
 use native.Mathlib.Omega.{arith}
 use Rattle.refusal_causes.specs.Sheet.{refusal_of, OnSheet}
 use Rattle.refusal_causes.specs.declared.Cause.{Cause}

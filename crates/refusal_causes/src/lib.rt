@@ -43,13 +43,6 @@ pub struct Refusal {
     pub value: usize,
 }
 
-// The answer of a call that writes into a lent buffer: how many entries it wrote, or why none.
-#[derive(Clone, Copy)]
-pub enum Written {
-    Count(usize),
-    Refused(Cause),
-}
-
 // A line of the sheet.
 fn sheet_line(number: usize, value: usize) -> Refusal
     ensures { result ≡ line_of number value }
@@ -58,23 +51,25 @@ fn sheet_line(number: usize, value: usize) -> Refusal
 }
 
 // The number and value of a cause, as the refusal sheet has them.
-pub fn refusal_of(cause: Cause) -> Refusal
-    ensures { result ≡ refusal_of cause }
-{
-    match cause {
-        Cause::Register => sheet_line(1, 0),
-        Cause::Chains => sheet_line(2, 0),
-        Cause::Lengths => sheet_line(3, 0),
-        Cause::TestSlice => sheet_line(4, 0),
-        Cause::StopSlice => sheet_line(5, 0),
-        Cause::AllTaken => sheet_line(6, 0),
-        Cause::NoSeed => sheet_line(7, 0),
-        Cause::NoCutting(slices) => sheet_line(8, slices),
-        Cause::NoSpace(entries) => sheet_line(9, entries),
-        Cause::SeedBeyond(place) => sheet_line(10, place),
-        Cause::SeedAtStop(place) => sheet_line(11, place),
-        Cause::SeedEndless(place) => sheet_line(12, place),
-        Cause::Line(line) => sheet_line(13, line),
-        Cause::Total(found) => sheet_line(14, found),
+impl From<Cause> for Refusal {
+    ghost from_gives = { λ cause refusal. refusal ≡ refusal_of cause };
+
+    fn from(cause: Cause) -> Refusal {
+        match cause {
+            Cause::Register => sheet_line(1, 0),
+            Cause::Chains => sheet_line(2, 0),
+            Cause::Lengths => sheet_line(3, 0),
+            Cause::TestSlice => sheet_line(4, 0),
+            Cause::StopSlice => sheet_line(5, 0),
+            Cause::AllTaken => sheet_line(6, 0),
+            Cause::NoSeed => sheet_line(7, 0),
+            Cause::NoCutting(slices) => sheet_line(8, slices),
+            Cause::NoSpace(entries) => sheet_line(9, entries),
+            Cause::SeedBeyond(place) => sheet_line(10, place),
+            Cause::SeedAtStop(place) => sheet_line(11, place),
+            Cause::SeedEndless(place) => sheet_line(12, place),
+            Cause::Line(line) => sheet_line(13, line),
+            Cause::Total(found) => sheet_line(14, found),
+        }
     }
 }

@@ -4,6 +4,7 @@
 --     call-formed, formed-call  the checks leave it, and only then; l, s and t are what the call says of its lengths, slices and stop slice
 --     window_formed, set-formed, cubes_formed, list_formed     the same of each kind of call
 -- Assumes nothing.
+use Rattle.std.specs.Prelude.{Ok}
 use mathlib.Core.Path.{◌≡◌, ◌∙◌}
 use mathlib.Core.Bool.{Bool, true, false}
 use mathlib.Core.List.{List}
@@ -22,7 +23,6 @@ use Rattle.refusal_lengths.specs.Lengths.{most_limit, bad_limit, bad_window, bad
 use Rattle.refusal_lengths.proofs.Lengths.{limit_within}
 use Rattle.refusal_order.specs.Order.{judged}
 use Rattle.refusal_order.proofs.Order.{well_formed, formed_well}
-use Rattle.refusal_order.specs.declared.Verdict.TheVariants.{WellFormed}
 use Rattle.refusal_checks.specs.Calls.{limited, call_faults, window_faults, set_faults, cubes_faults, list_faults}
 
 module _ (g : Settings) (lengths : Bool) where
@@ -50,7 +50,7 @@ pub record CallFormed (g : Settings) (masks : List ℕ) (l s t : Bool) : Type 0 
   pub stop : t ≡ false
 
 module _ (g : Settings) (masks : List ℕ) where
-  call-formed : (l s t : Bool) → judged (call_faults g masks l s t) ≡ WellFormed → CallFormed g masks l s t
+  call-formed : (l s t : Bool) → judged (call_faults g masks l s t) ≡ Ok tt → CallFormed g masks l s t
   unfolding call_faults
   call-formed l s t w =
       let f = formed_well (call_faults g masks l s t) w in
@@ -69,7 +69,7 @@ module _ (g : Settings) (masks : List ℕ) where
       }
 
   pub formed-call : (l s t : Bool) → bad_register g.cells g.taps ≡ false → bad_chains g.cells masks ≡ false → beyond (length masks) g.invert ≡ false → bad_limit g.limit ≡ false → l ≡ false → s ≡ false → t ≡ false
-      → judged (call_faults g masks l s t) ≡ WellFormed
+      → judged (call_faults g masks l s t) ≡ Ok tt
   unfolding call_faults
   formed-call l s t register chains invert limit lengths slices stop = well_formed (call_faults g masks l s t) (record {
     register = register;
@@ -79,20 +79,20 @@ module _ (g : Settings) (masks : List ℕ) where
     stop = stop;
   })
 
-  pub list_formed : (stop : TestSlice) (n seeds : ℕ) → judged (list_faults g masks stop n seeds) ≡ WellFormed → CallFormed g masks (bad_list n seeds) false (bad_stop (length masks) stop)
+  pub list_formed : (stop : TestSlice) (n seeds : ℕ) → judged (list_faults g masks stop n seeds) ≡ Ok tt → CallFormed g masks (bad_list n seeds) false (bad_stop (length masks) stop)
   unfolding list_faults
   list_formed stop n seeds w = call-formed _ _ _ w
 
   module _ (ps bs : List ℕ) where
-    pub cubes_formed : (depth : ℕ) → judged (cubes_faults g masks depth ps bs) ≡ WellFormed → CallFormed g masks (bad_cubes depth (length ps)) (bad_slices (length masks) ps bs) false
+    pub cubes_formed : (depth : ℕ) → judged (cubes_faults g masks depth ps bs) ≡ Ok tt → CallFormed g masks (bad_cubes depth (length ps)) (bad_slices (length masks) ps bs) false
     unfolding cubes_faults
     cubes_formed depth w = call-formed _ _ _ w
 
   module _ (stop : TestSlice) (ps bs : List ℕ) where
-    pub window_formed : judged (window_faults g masks stop ps bs) ≡ WellFormed → CallFormed g masks (bad_window g.limit (length ps)) (bad_slices (length masks) ps bs) (bad_stop (length masks) stop)
+    pub window_formed : judged (window_faults g masks stop ps bs) ≡ Ok tt → CallFormed g masks (bad_window g.limit (length ps)) (bad_slices (length masks) ps bs) (bad_stop (length masks) stop)
     unfolding window_faults
     window_formed w = call-formed _ _ _ w
 
-    pub set-formed : judged (set_faults g masks stop ps bs) ≡ WellFormed → CallFormed g masks (bad_set (length ps)) (bad_slices (length masks) ps bs) (bad_stop (length masks) stop)
+    pub set-formed : judged (set_faults g masks stop ps bs) ≡ Ok tt → CallFormed g masks (bad_set (length ps)) (bad_slices (length masks) ps bs) (bad_stop (length masks) stop)
     unfolding set_faults
     set-formed w = call-formed _ _ _ w

@@ -7,7 +7,8 @@ ghost use Rattle.refusal_checks.specs.Calls.{limited, call_faults, window_faults
 
 use machine_settings::Settings;
 use machine_slices::TestSlice;
-use refusal_order::{Faults, Verdict};
+use refusal_causes::Cause;
+use refusal_order::Faults;
 
 // Cause 3 of a call with settings: their limit, and the lengths of the call.
 fn bad_lengths(settings: Settings, lengths: bool) -> bool
@@ -20,7 +21,13 @@ fn bad_lengths(settings: Settings, lengths: bool) -> bool
 }
 
 // The checks of a call with settings, once its own lengths, slices and stop slice are judged.
-fn check_call(settings: Settings, masks: &[u64], lengths: bool, slices: bool, stop: bool) -> Verdict
+fn check_call(
+    settings: Settings,
+    masks: &[u64],
+    lengths: bool,
+    slices: bool,
+    stop: bool,
+) -> Result<(), Cause>
     ensures { result ≡ judged (call_faults settings masks.now lengths slices stop) }
 {
     refusal_order::judge(Faults {
@@ -39,7 +46,7 @@ pub fn check_window(
     stop: TestSlice,
     specified: &[u64],
     bits: &[u64],
-) -> Verdict
+) -> Result<(), Cause>
     ensures { result ≡ judged (window_faults settings masks.now stop specified.now bits.now) }
 {
     let chains = masks.len();
@@ -59,7 +66,7 @@ pub fn check_set(
     stop: TestSlice,
     specified: &[u64],
     bits: &[u64],
-) -> Verdict
+) -> Result<(), Cause>
     ensures { result ≡ judged (set_faults settings masks.now stop specified.now bits.now) }
 {
     let chains = masks.len();
@@ -79,7 +86,7 @@ pub fn check_cubes(
     depth: usize,
     specified: &[u64],
     bits: &[u64],
-) -> Verdict
+) -> Result<(), Cause>
     ensures { result ≡ judged (cubes_faults settings masks.now depth specified.now bits.now) }
 {
     check_call(
@@ -92,7 +99,7 @@ pub fn check_cubes(
 }
 
 // The checks of a set whose stop slice is asked for: only the number of its chains is handed in.
-pub fn check_stop(chains: usize, specified: &[u64], bits: &[u64]) -> Verdict
+pub fn check_stop(chains: usize, specified: &[u64], bits: &[u64]) -> Result<(), Cause>
     ensures { result ≡ judged (stop_faults chains specified.now bits.now) }
 {
     refusal_order::judge(Faults {
@@ -111,7 +118,7 @@ pub fn check_list(
     stop: TestSlice,
     slices: usize,
     seeds: usize,
-) -> Verdict
+) -> Result<(), Cause>
     ensures { result ≡ judged (list_faults settings masks.now stop slices seeds) }
 {
     check_call(

@@ -5,6 +5,7 @@
 --     first_here         a test that holds answers
 --     first_later        one that does not leaves it to the rest
 -- Assumes nothing.
+use Rattle.std.specs.Prelude.{Err, Ok}
 use mathlib.Core.Path.{◌≡◌, refl}
 use mathlib.Core.Bool.{Bool, true, false}
 use mathlib.Core.List.{List, ◌∷◌}
@@ -14,7 +15,6 @@ use Rattle.refusal_causes.specs.declared.Cause.{Cause}
 use Rattle.refusal_causes.specs.declared.Cause.TheVariants as cause
 use Rattle.refusal_order.specs.Order.{Test, tests, first_of, judged}
 use Rattle.refusal_order.specs.declared.Faults.{Faults}
-use Rattle.refusal_order.specs.declared.Verdict.TheVariants.{WellFormed, Refused}
 
 pub record NoFault (f : Faults) : Type 0 where
   pub register : f.register ≡ false
@@ -23,17 +23,17 @@ pub record NoFault (f : Faults) : Type 0 where
   pub slices : f.slices ≡ false
   pub stop : f.stop ≡ false
 
-pub well_formed : (f : Faults) → NoFault f → judged f ≡ WellFormed
+pub well_formed : (f : Faults) → NoFault f → judged f ≡ Ok tt
 unfolding judged tests first_of
 well_formed f n = rw (n.register, first_of, n.chains, first_of, n.lengths, first_of, n.slices, first_of, n.stop, first_of)
 
 -- one test more: it does not hold, and the rest answers
-passed : (b : Bool) (c : Cause) (ts : List Test) → first_of (record { holds = b; refused = c } ∷ ts) ≡ WellFormed → (b ≡ false) × (first_of ts ≡ WellFormed)
+passed : (b : Bool) (c : Cause) (ts : List Test) → first_of (record { holds = b; refused = c } ∷ ts) ≡ Ok tt → (b ≡ false) × (first_of ts ≡ Ok tt)
 unfolding first_of
 passed true c ts e = absurd (let z : ◌≡◌ {A = ℕ} 0 1 = cc in omega arith)
 passed false c ts e = (refl, e)
 
-pub formed_well : (f : Faults) → judged f ≡ WellFormed → NoFault f
+pub formed_well : (f : Faults) → judged f ≡ Ok tt → NoFault f
 unfolding judged tests
 formed_well f e =
     let a = passed f.register cause.Register _ e in
@@ -44,7 +44,7 @@ formed_well f e =
     record { register = a.0; chains = b.0; lengths = c.0; slices = d.0; stop = g.0 }
 
 module _ (t : Test) (ts : List Test) where
-  pub first_here : t.holds ≡ true → first_of (t ∷ ts) ≡ Refused t.refused
+  pub first_here : t.holds ≡ true → first_of (t ∷ ts) ≡ Err t.refused
   unfolding first_of
   first_here h = rw (h, first_of)
 

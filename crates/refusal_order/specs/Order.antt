@@ -3,12 +3,10 @@
 --     tests faults    the tests, in order
 --     first_of ts      the first that holds answers
 --     judged faults   what the checks answer
-use Rattle.std.specs.Prelude.{Bool, true, false, List, [], ◌∷◌}
+use Rattle.std.specs.Prelude.{Bool, true, false, List, [], ◌∷◌, Err, Ok, Result}
 use Rattle.refusal_causes.specs.declared.Cause.{Cause}
 use Rattle.refusal_causes.specs.declared.Cause.TheVariants as cause
 use Rattle.refusal_order.specs.declared.Faults.{Faults}
-use Rattle.refusal_order.specs.declared.Verdict.{Verdict}
-use Rattle.refusal_order.specs.declared.Verdict.TheVariants.{WellFormed, Refused}
 
 pub record Test : Type 0 where
   pub holds : Bool
@@ -23,9 +21,9 @@ tests f =
     ∷ record { holds = f.stop; refused = cause.StopSlice }
     ∷ []
 
-unfoldable pub first_of : List Test → Verdict
-first_of [] = WellFormed
-first_of (t ∷ ts) = elim t.holds [ true ↦ Refused t.refused | false ↦ first_of ts ]
+unfoldable pub first_of : List Test → Result (Unit {0}) Cause
+first_of [] = Ok tt
+first_of (t ∷ ts) = elim t.holds [ true ↦ Err t.refused | false ↦ first_of ts ]
 
-unfoldable pub judged : Faults → Verdict
+unfoldable pub judged : Faults → Result (Unit {0}) Cause
 judged f = first_of (tests f)

@@ -16,31 +16,24 @@ pub struct Faults {
     pub stop: bool,
 }
 
-// What the checks answer.
-#[derive(Clone, Copy)]
-pub enum Verdict {
-    WellFormed,
-    Refused(Cause),
-}
-
 // The first cause that holds, in the order of causes.
-pub fn judge(faults: Faults) -> Verdict
+pub fn judge(faults: Faults) -> Result<(), Cause>
     ensures { result ≡ judged faults }
 {
     if faults.register {
-        return Verdict::Refused(Cause::Register);
+        return Err(Cause::Register);
     }
     if faults.chains {
-        return Verdict::Refused(Cause::Chains);
+        return Err(Cause::Chains);
     }
     if faults.lengths {
-        return Verdict::Refused(Cause::Lengths);
+        return Err(Cause::Lengths);
     }
     if faults.slices {
-        return Verdict::Refused(Cause::TestSlice);
+        return Err(Cause::TestSlice);
     }
     if faults.stop {
-        return Verdict::Refused(Cause::StopSlice);
+        return Err(Cause::StopSlice);
     }
-    Verdict::WellFormed
+    Ok(())
 }

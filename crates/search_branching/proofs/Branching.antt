@@ -4,11 +4,12 @@
 --     branched_start, branched_same, branched_child, branched_end     at the start, without a pivot, with a child that was searched, and at the end
 --     child_rising, child_shorter     the vectors of a child rise, and are fewer
 -- Assumes nothing.
+use Rattle.std.specs.Prelude.{None, Option, Some}
 use mathlib.Core.Path.{◌≡◌, refl, sym, ◌∙◌, subst}
 use mathlib.Core.Logic.{◌⊎◌, inl, inr, ⊎_elim}
 use mathlib.Core.Bool.{true, false}
 use mathlib.Core.List.{List}
-use Prim.Native.Nat.{ℕ, ◌+◌, ◌*◌, ◌^◌, ◌≤◌, ◌<◌}
+use Prim.Native.Nat.{ℕ, ◌+◌, ◌^◌, ◌≤◌, ◌<◌}
 use native.Mathlib.Omega.{arith}
 use lib.Bits.{bit_xor}
 use lib.ListN.{get_or, length}
@@ -24,44 +25,38 @@ use Rattle.search_space.proofs.Members.{Among, among_lowest, lowest_among}
 use Rattle.search_pivot.proofs.Pivot.{no_pivot, kept_alike, alike_kept, pivot_moves, pivot_parity, without-same, without_shorter, rising_kept, rising_moved}
 use Rattle.search_rows.specs.Rows.{row, reads, shown, clear}
 use Rattle.search_rows.specs.declared.Pattern.{Pattern}
-use Rattle.search_rows.proofs.Reading.{row_fits, row-length, row_at, reads_alike, clear_at}
+use Rattle.search_rows.proofs.Reading.{reads_alike, clear_at}
 use Rattle.search_found.specs.Lower.{reached}
-use Rattle.search_found.specs.declared.Found.{Found}
-use Rattle.search_found.specs.declared.Found.TheVariants.{State, Nothing}
 use Rattle.search_found.proofs.Finding.{Below, Kept, Reached, Finds, reached_on, kept_on}
 use Rattle.search_found.proofs.Passing.{Passes}
 
 module _ (p : Pattern) (table : List ℕ) (m : ℕ) where
   -- ---- the two ways to end at once
 
-  pub finds_pruned : (x : ℕ) (vs : List ℕ) (a : Found) → Rising x 0 vs → reached a x ≡ true → Finds (Passes p table m x vs) a a
+  pub finds_pruned : (x : ℕ) (vs : List ℕ) (a : Option ℕ) → Rising x 0 vs → reached a x ≡ true → Finds (Passes p table m x vs) a a
   finds_pruned x vs a r e = record { kept = inl refl; all = λ s l h. go a e s (lowest_among vs x 0 s r h.0) }
     where
-      go : (f : Found) → reached f x ≡ true → (s : ℕ) → x ≤ s → Reached f s
-      go (State q) t s h = omega (arith, leb-true q x t)
-      go Nothing t s h = absurd (clash false t refl)
+      go : (f : Option ℕ) → reached f x ≡ true → (s : ℕ) → x ≤ s → Reached f s
+      go (Some q) t s h = omega (arith, leb-true q x t)
+      go None t s h = absurd (clash false t refl)
 
-  pub finds_lowest : (x : ℕ) (vs : List ℕ) (a : Found) → Rising x 0 vs → x < 2 ^ 64 → reached a x ≡ false → clear p table m x ≡ true → Finds (Passes p table m x vs) a (State x)
+  pub finds_lowest : (x : ℕ) (vs : List ℕ) (a : Option ℕ) → Rising x 0 vs → x < 2 ^ 64 → reached a x ≡ false → clear p table m x ≡ true → Finds (Passes p table m x vs) a (Some x)
   finds_lowest x vs a r w e c = record {
     kept = inr (x, refl, w, (among_lowest vs x, c), go a e);
     all = λ s l h. lowest_among vs x 0 s r h.0;
   }
     where
-      go : (f : Found) → reached f x ≡ false → Below f x
-      go (State q) t = leb-false q x t
-      go Nothing t = tt
+      go : (f : Option ℕ) → reached f x ≡ false → Below f x
+      go (Some q) t = leb-false q x t
+      go None t = tt
 
-  -- ---- branching on row t
+  -- ---- branching on the masks ms of a row
 
-  module _ (x : ℕ) (vs : List ℕ) (a : Found) (t : ℕ) where
-    abbrev k : ℕ
-    k = p.columns
-
+  module _ (x : ℕ) (vs : List ℕ) (a : Option ℕ) (ms : List ℕ) where
     abbrev mask : ℕ → ℕ
-    mask j = get_or table (t * k + j) 0
+    mask j = get_or ms j 0
 
-    pub record Branched (rest : List ℕ) (found : Found) (j : ℕ) : Type 0 where
-      pub within : j ≤ k
+    pub record Branched (rest : List ℕ) (found : Option ℕ) (j : ℕ) : Type 0 where
       pub rising : Rising x 0 rest
       pub shorter : length rest ≤ length vs
       pub sub : (s : ℕ) → Among x rest s → Among x vs s
@@ -71,7 +66,6 @@ module _ (p : Pattern) (table : List ℕ) (m : ℕ) where
 
     pub branched_start : Rising x 0 vs → Branched vs a 0
     branched_start r = record {
-      within = omega arith;
       rising = r;
       shorter = omega arith;
       sub = λ s h. h;
@@ -81,9 +75,8 @@ module _ (p : Pattern) (table : List ℕ) (m : ℕ) where
     }
 
     -- no member of the rest reads otherwise than x
-    pub branched_same : (rest : List ℕ) (found : Found) (j : ℕ) → j < k → pivot (mask j) rest ≡ 0 → Branched rest found j → Branched (without (mask j) rest) found (j + 1)
-    branched_same rest found j h z b = subst (λ (l : List ℕ). Branched l found (j + 1)) (sym (without-same (mask j) rest z)) (record {
-      within = omega arith;
+    pub branched_same : (rest : List ℕ) (found : Option ℕ) (j : ℕ) → pivot (mask j) rest ≡ 0 → Branched rest found j → Branched (without (mask j) rest) found (j + 1)
+    branched_same rest found j z b = subst (λ (l : List ℕ). Branched l found (j + 1)) (sym (without-same (mask j) rest z)) (record {
       rising = b.rising;
       shorter = b.shorter;
       sub = b.sub;
@@ -92,7 +85,7 @@ module _ (p : Pattern) (table : List ℕ) (m : ℕ) where
       reached = b.reached;
     })
 
-    module _ (rest : List ℕ) (found r : Found) (j : ℕ) (lt : j < k) (n : pivot (mask j) rest ≡ 0 → ⊥) (b : Branched rest found j) where
+    module _ (rest : List ℕ) (found r : Option ℕ) (j : ℕ) (n : pivot (mask j) rest ≡ 0 → ⊥) (b : Branched rest found j) where
       abbrev y : ℕ
       y = bit_xor x (pivot (mask j) rest)
 
@@ -108,7 +101,6 @@ module _ (p : Pattern) (table : List ℕ) (m : ℕ) where
 
       pub branched_child : Finds (Passes p table m y (without (mask j) rest)) found r → Branched (without (mask j) rest) r (j + 1)
       branched_child f = record {
-        within = omega arith;
         rising = rising_kept (mask j) rest b.rising;
         shorter = omega (arith, b.shorter, without_shorter (mask j) rest n);
         sub = λ s h. b.sub s (kept_alike (mask j) rest x s h).0;
@@ -130,10 +122,10 @@ module _ (p : Pattern) (table : List ℕ) (m : ℕ) where
       child_shorter = omega (arith, b.shorter, without_shorter (mask j) rest n)
 
     -- every column is passed: the rest shows the pattern in row t
-    pub branched_end : (rest : List ℕ) (found : Found) (j : ℕ) → k ≤ j → t < m → m * k ≤ length table → shown p table t x ≡ true → Branched rest found j
+    pub branched_end : (t : ℕ) (rest : List ℕ) (found : Option ℕ) (j : ℕ) → ms ≡ row p.columns table t → length ms ≤ j → t < m → shown p table t x ≡ true → Branched rest found j
         → Finds (Passes p table m x vs) a found
     unfolding shown
-    branched_end rest found j h lt fits sh b = record {
+    branched_end t rest found j e h lt sh b = record {
       kept = b.kept;
       all = λ s w q. ⊎_elim
           (λ r. r)
@@ -141,9 +133,5 @@ module _ (p : Pattern) (table : List ℕ) (m : ℕ) where
           (b.reached s w q);
     }
       where
-        f : t * k + k ≤ length table
-        f = row_fits t m k (length table) lt fits
-
-        alike : (s : ℕ) → Among x rest s → reads (row k table t) p.bits s ≡ reads (row k table t) p.bits x
-        alike s i = reads_alike (row k table t) p.bits s x
-            (λ e l. (let g : e < k = rw (row-length k table t f) at l in rw (row_at k table t f e g) (b.equal s i e (omega (arith, b.within)))))
+        alike : (s : ℕ) → Among x rest s → reads (row p.columns table t) p.bits s ≡ reads (row p.columns table t) p.bits x
+        alike s i = rw (sym e) (reads_alike ms p.bits s x (λ c l. b.equal s i c (omega arith)))

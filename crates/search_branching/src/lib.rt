@@ -7,7 +7,6 @@ ghost use Rattle.search_rows.specs.Leaf.{LeafSized};
 ghost use Rattle.search_found.specs.Search.{lowest_clear};
 ghost use Rattle.search_found.specs.Lower.{lower};
 
-use search_found::Found;
 use search_rows::Pattern;
 
 // How many vectors the space of a leaf has at most.
@@ -31,8 +30,8 @@ fn leaf(
     lowest: u64,
     vectors: &[u64],
     free: usize,
-    before: Found,
-) -> Found
+    before: Option<u64>,
+) -> Option<u64>
     requires leaf { LeafSized pattern free × (free ≤ length vectors.now) }
     requires rising { Rising lowest 0 (take free vectors.now) }
     requires table { rows * pattern.columns ≤ length table.now }
@@ -55,8 +54,8 @@ pub fn branch(
     lowest: u64,
     vectors: [u64; 64],
     free: usize,
-    before: Found,
-) -> Found
+    before: Option<u64>,
+) -> Option<u64>
     requires rising { Rising lowest 0 (take free vectors) }
     requires columns_in_bounds { rows * pattern.columns ≤ length table.now }
     ensures { result ≡ lower before (lowest_clear pattern table.now rows lowest (take free vectors)) }
@@ -68,17 +67,16 @@ pub fn branch(
     if is_leaf(pattern, free) {
         return leaf(pattern, table, rows, lowest, &rest, free, before);
     }
-    let row = search_rows::first_shown(pattern, table, rows, lowest);
-    if row == rows {
-        return Found::State(lowest);
-    }
+    let Some(row) = search_rows::first_shown(pattern, table, rows, lowest) else {
+        return Some(lowest);
+    };
     let columns = pattern.columns;
     let first = row * columns;
+    let masks = &table[first..first + columns];
     let mut left = free;
     let mut found = before;
-    let mut position: usize = 0;
-    while position < columns {
-        let taken = search_pivot::take_out(&mut rest, left, table[first + position]);
+    for &mask in masks {
+        let taken = search_pivot::take_out(&mut rest, left, mask);
         left = taken.left;
         if taken.pivot != 0 {
             found = branch(
@@ -91,7 +89,6 @@ pub fn branch(
                 found,
             );
         }
-        position += 1;
     }
     found
 }

@@ -1,10 +1,10 @@
 -- The lanes of a group that the words of a leaf rule out.
 --     lanes_yes, lanes_no         the lanes that read the bit of a column
---     Showing, showing-start, showing-next     of a loop over the columns
+--     Lanes, Showing, showing-start, showing-next     of a loop over the columns
 --     kills_none, kills_row, kills_fewer     of a loop over the rows
 --     dead_clear                  so the members of dead lanes are not clear
 -- Assumes nothing.
-use mathlib.Core.Path.{◌≡◌, subst}
+use mathlib.Core.Path.{◌≡◌, sym}
 use mathlib.Core.Logic.{⊎_elim}
 use mathlib.Core.Bool.{false}
 use mathlib.Core.List.{List}
@@ -12,6 +12,7 @@ use Prim.Native.Nat.{ℕ, ◌+◌, ◌*◌, ◌/◌, ◌%◌, ◌^◌, ◌≤◌
 use native.Mathlib.Omega.{arith}
 use lib.Bits.{bit_and, bit_or, bit_xor}
 use lib.ListN.{get_or}
+use borrow.Author.Count.{below_more}
 use Rattle.words_bounded.proofs.Tests.{eq_or_not}
 use Rattle.words_gf2.specs.Words.{digit}
 use Rattle.words_gf2.proofs.Digits.{digit_lt, digit-none, digit_and, digit_or}
@@ -40,37 +41,25 @@ module _ (words : List ℕ) (a g : ℕ) where
 
 -- ---- a loop over the columns
 
-module _ (words : List ℕ) (a k g : ℕ) where
-  pub record Showing (lanes j place : ℕ) : Type 0 where
-    pub within : j ≤ k
-    pub stands : place ≡ a + j * 2
-    pub match : (i : ℕ) → i < 64 → digit lanes i ≡ 1 → AllMatched words a j g i
-
+module _ (words : List ℕ) (a g : ℕ) where
+  -- the lanes that are set read the bit of the column at a place
   abbrev Lanes : ℕ → ℕ → Type 0
   Lanes q r = (i : ℕ) → i < 64 → digit r i ≡ 1 → Matched words q g i
+
+  -- they do in each of the first j columns
+  abbrev pub Showing : ℕ → ℕ → Type 0
+  Showing lanes j = (i : ℕ) → i < 64 → digit lanes i ≡ 1 → AllMatched words a j g i
 
   both_set : (y z i : ℕ) → digit (bit_and y z) i ≡ 1 → (digit y i ≡ 1) × (digit z i ≡ 1)
   both_set y z i e = let d = digit_and y z i in (omega (arith, digit_lt y i, digit_lt z i), omega (arith, digit_lt y i, digit_lt z i))
 
-  pub showing-start : (y z : ℕ) → 2 ≤ k → Lanes a y → Lanes (a + 2) z → Showing (bit_and y z) 2 (a + 4)
-  showing-start y z h l r = record {
-    within = h;
-    stands = omega arith;
-    match = λ i b d j c. (let w = both_set y z i d in ⊎_elim
-        (λ e. subst (λ (q : ℕ). Matched words q g i) (let u : a ≡ a + j * 2 = omega arith in u) (l i b w.0))
-        (λ ne. subst (λ (q : ℕ). Matched words q g i) (let u : a + 2 ≡ a + j * 2 = omega arith in u) (r i b w.1))
-        (eq_or_not j 0));
-  }
+  pub showing-next : (lanes j q z : ℕ) → q ≡ a + j * 2 → Showing lanes j → Lanes q z → Showing (bit_and lanes z) (j + 1)
+  showing-next lanes j q z e s r i b d = let w = both_set lanes z i d in below_more (λ c. Matched words (a + c * 2) g i) j (s i b w.0) (rw (sym e) (r i b w.1))
 
-  pub showing-next : (lanes j place z : ℕ) → j < k → Showing lanes j place → Lanes place z → Showing (bit_and lanes z) (j + 1) (place + 2)
-  showing-next lanes j place z h s r = record {
-    within = omega arith;
-    stands = omega (arith, s.stands);
-    match = λ i b d c l. (let w = both_set lanes z i d in ⊎_elim
-        (λ e. subst (λ (q : ℕ). Matched words q g i) (let u : place ≡ a + c * 2 = omega (arith, s.stands) in u) (r i b w.1))
-        (λ ne. s.match i b w.0 c (omega arith))
-        (eq_or_not c j));
-  }
+  pub showing-start : (y z : ℕ) → Lanes a y → Lanes (a + 2) z → Showing (bit_and y z) 2
+  showing-start y z l r =
+      let e : a + 0 * 2 ≡ a = omega arith in
+      showing-next y 1 (a + 2) z (omega arith) (λ i b d. below_more (λ c. Matched words (a + c * 2) g i) 0 (λ c h. absurd (omega arith)) (rw e (l i b d))) r
 
 -- ---- the lanes that are dead
 

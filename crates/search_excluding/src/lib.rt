@@ -30,15 +30,11 @@ fn showing(words: &[u64], first: usize, columns: usize, group: usize) -> u64
         return two;
     }
     let mut lanes = two & lanes_of(words, first + 4, group);
-    let mut column: usize = 3;
-    let mut place = first + 6;
-    while column < columns {
+    for column in 3..columns {
         if lanes == 0 {
             return 0;
         }
-        lanes = lanes & lanes_of(words, place, group);
-        column += 1;
-        place += 2;
+        lanes = lanes & lanes_of(words, first + column * 2, group);
     }
     lanes
 }
@@ -52,13 +48,11 @@ pub fn dead_lanes(words: &[u64], columns: usize, count: usize, group: usize) -> 
 {
     let width = columns * 2;
     let mut dead: u64 = 0;
-    let mut row: usize = 0;
-    while row < count {
+    for row in 0..count {
         dead = dead | showing(words, row * width, columns, group);
         if dead == search_lanes::ALL {
             return dead;
         }
-        row += 1;
     }
     dead
 }

@@ -1,10 +1,10 @@
 -- The words of a leaf, filled for its rows.
 --     column_yes, column_no       the words of a mask, where the bit is 1 and where it is 0
---     set_before, matched_before  an entry that is written leaves those before it, and a match there, as they were
---     Filling, filling_start, filling_next, filling_end     of a loop that writes the words of a row
---     filled_none, filled_row, filled_same     of a loop over the rows
+--     sets_before, matched_before  two entries that are written leave those before them, and a match there, as they were
+--     Filling, filling_next, filling_end     of a loop that writes the words of a row
+--     filled_row, filled_same     of a loop over the rows
 -- Assumes nothing.
-use mathlib.Core.Path.{◌≡◌, refl, sym, ap, ap₂, ◌∙◌, subst}
+use mathlib.Core.Path.{◌≡◌, sym, ap, ap₂, ◌∙◌, subst}
 use mathlib.Core.Logic.{⊎_elim}
 use mathlib.Core.List.{List, ◌++◌}
 use Prim.Native.Nat.{ℕ, ◌+◌, ◌-◌, ◌*◌, ◌/◌, ◌%◌, ◌^◌, ◌≤◌, ◌<◌}
@@ -73,8 +73,12 @@ module _ (x : ℕ) (vs : List ℕ) (f m : ℕ) (six : 6 ≤ f) (few : f ≤ 12) 
 -- ---- a loop that writes the words of a row
 
 -- what stands before a place stays
-pub set_before : (l : List ℕ) (p v i : ℕ) → i < p → get_or (set l p v) i 0 ≡ get_or l i 0
+set_before : (l : List ℕ) (p v i : ℕ) → i < p → get_or (set l p v) i 0 ≡ get_or l i 0
 set_before l p v i h = get_or-set_other l p i v 0 (λ e. omega arith)
+
+-- and where the entry behind it is written too
+sets_before : (l : List ℕ) (p v w i : ℕ) → i < p → get_or (set (set l p v) (p + 1) w) i 0 ≡ get_or l i 0
+sets_before l p v w i h = set_before (set l p v) (p + 1) w i (omega arith) ∙ set_before l p v i h
 
 matched_before : (l k : List ℕ) (p a g i : ℕ) → a + 1 < p → ((j : ℕ) → j < p → get_or l j 0 ≡ get_or k j 0) → Matched l a g i → Matched k a g i
 matched_before l k p a g i h e m =
@@ -84,57 +88,44 @@ module _ (p : Pattern) (table : List ℕ) (t x : ℕ) (vs old : List ℕ) (a : �
   abbrev R : List ℕ
   R = row p.columns table t
 
-  pub record Filling (words : List ℕ) (bits k place : ℕ) : Type 0 where
-    pub within : k ≤ p.columns
-    pub stands : place ≡ a + k * 2
+  pub record Filling (words : List ℕ) (bits k : ℕ) : Type 0 where
     pub long : length words ≡ length old
     pub same : (i : ℕ) → i < a → get_or words i 0 ≡ get_or old i 0
     pub read : (g i : ℕ) → g < 64 → i < 64 → AllMatched words a k g i → reads R p.bits (pick x vs (g * 64 + i)) ≡ reads (drop k R) bits (pick x vs (g * 64 + i))
 
-  pub filling_start : Filling old p.bits 0 a
-  filling_start = record { within = omega arith; stands = omega arith; long = refl; same = λ i h. refl; read = λ g i hg hi m. refl }
+  module _ (fits : t * p.columns + p.columns ≤ length table) (words : List ℕ) (bits k l h : ℕ) (lt : k < p.columns) (room : a + p.columns * 2 ≤ length old) (f : Filling words bits k) where
+    abbrev place : ℕ
+    place = a + k * 2
 
-  module _ (fits : t * p.columns + p.columns ≤ length table) (words : List ℕ) (bits k place l h : ℕ) (lt : k < p.columns) (room : a + p.columns * 2 ≤ length old) (f : Filling words bits k place) where
     abbrev next : List ℕ
     next = set (set words place l) (place + 1) h
 
-    next-before : (i : ℕ) → i < place → get_or next i 0 ≡ get_or words i 0
-    next-before i b = set_before (set words place l) (place + 1) h i (omega arith) ∙ set_before words place l i b
-
     next_low : get_or next place 0 ≡ l
-    next_low = set_before (set words place l) (place + 1) h place (omega arith) ∙ get_or-set_same words place l 0 (omega (arith, f.stands, f.long))
+    next_low = set_before (set words place l) (place + 1) h place (omega arith) ∙ get_or-set_same words place l 0 (omega (arith, f.long))
 
     next-high : get_or next (place + 1) 0 ≡ h
-    next-high = get_or-set_same (set words place l) (place + 1) h 0 (simp length-set (omega (arith, f.stands, f.long)))
+    next-high = get_or-set_same (set words place l) (place + 1) h 0 (simp length-set (omega (arith, f.long)))
 
-    pub filling_next : Reads x vs (get_or table (t * p.columns + k) 0) (bits % 2) l h → Filling next (bits / 2) (k + 1) (place + 2)
+    pub filling_next : Reads x vs (get_or table (t * p.columns + k) 0) (bits % 2) l h → Filling next (bits / 2) (k + 1)
     filling_next r = record {
-      within = omega arith;
-      stands = omega (arith, f.stands);
       long = simp length-set f.long;
-      same = λ i b. next-before i (omega (arith, f.stands)) ∙ f.same i b;
+      same = λ i b. sets_before words place l h i (omega arith) ∙ f.same i b;
       read = λ g i hg hi m.
-          f.read g i hg hi (λ j b. matched_before next words place (a + j * 2) g i (omega (arith, f.stands)) (λ q c. next-before q c) (m j (omega arith)))
+          f.read g i hg hi (λ j b. matched_before next words place (a + j * 2) g i (omega arith) (λ q c. sets_before words place l h q c) (m j (omega arith)))
           ∙ reads-next p.columns table t fits (pick x vs (g * 64 + i)) k bits lt
-          (r g i hg hi (
-          let e : a + k * 2 ≡ place = sym f.stands in
-          let u : Matched next place g i = subst (λ (q : ℕ). Matched next q g i) e (m k (omega arith)) in
-          ap₂ (λ (y z : ℕ). (digit y i + digit z g) % 2) (sym next_low) (sym next-high) ∙ u));
+          (r g i hg hi (ap₂ (λ (y z : ℕ). (digit y i + digit z g) % 2) (sym next_low) (sym next-high) ∙ m k (omega arith)));
     }
 
-  pub filling_end : t * p.columns + p.columns ≤ length table → (words : List ℕ) (bits k place : ℕ) → p.columns ≤ k → Filling words bits k place → RowFilled p table t x vs words a
+  pub filling_end : t * p.columns + p.columns ≤ length table → (words : List ℕ) (bits k : ℕ) → k ≡ p.columns → Filling words bits k → RowFilled p table t x vs words a
   unfolding shown
-  filling_end fits words bits k place h f g i hg hi m =
-      f.read g i hg hi (λ j b. m j (omega (arith, f.within))) ∙ sym (reads_end p.columns table t fits (pick x vs (g * 64 + i)) k bits h)
+  filling_end fits words bits k e f g i hg hi m =
+      f.read g i hg hi (λ j b. m j (omega arith)) ∙ sym (reads_end p.columns table t fits (pick x vs (g * 64 + i)) k bits (omega arith))
 
 -- ---- a loop over the rows
 
 module _ (p : Pattern) (table : List ℕ) (m x : ℕ) (vs : List ℕ) where
   abbrev width : ℕ
   width = p.columns * 2
-
-  pub filled_none : (words : List ℕ) → Filled p table m x vs words 0
-  filled_none words = record { within = omega arith; kills = λ c g i h. absurd (omega arith) }
 
   -- words from the place a on are new
   module _ (words next : List ℕ) (n a : ℕ) (e : a ≡ n * width) (l : length next ≡ length words) (s : (i : ℕ) → i < a → get_or next i 0 ≡ get_or words i 0) (f : Filled p table m x vs words n) where

@@ -54,9 +54,8 @@ fn fill_row(
     let columns = pattern.columns;
     let start = row * columns;
     let mut bits = pattern.bits;
-    let mut column: usize = 0;
-    let mut place = first;
-    while column < columns {
+    for column in 0..columns {
+        let place = first + column * 2;
         let pair = column_of(lowest, vectors, free, table[start + column], bits % 2);
         let low = pair.low;
         let high = pair.high;
@@ -66,8 +65,6 @@ fn fill_row(
             return false;
         }
         bits = bits / 2;
-        column += 1;
-        place += 2;
     }
     true
 }
@@ -106,8 +103,7 @@ pub fn fill(
     let width = columns * 2;
     let most = words_for(columns);
     let mut count: usize = 0;
-    let mut row: usize = 0;
-    while row < rows {
+    for row in 0..rows {
         let first = count * width;
         if most < first + width {
             return count;
@@ -115,7 +111,6 @@ pub fn fill(
         if fill_row(pattern, table, row, lowest, vectors, free, words, first) {
             count += 1;
         }
-        row += 1;
     }
     count
 }

@@ -2,8 +2,10 @@
 --     take_rest      a list is its first entries and the rest
 --     Entered        the answer and the buffer are those that the row gives
 --     entered        so they are, by what the row says
---     forced-left    the vectors that are left, read off the buffer
+--     forced-left    the vectors of what is left, read off the buffer
 -- Assumes nothing.
+use Rattle.std.specs.Prelude.{Option, Some}
+use Rattle.std.proofs.lemmas.Option.{none-some, same_Some}
 use mathlib.Core.Path.{◌≡◌, refl, sym, ap, ◌∙◌}
 use mathlib.Core.List.{List, [], ◌∷◌, ◌++◌}
 use Prim.Native.Nat.{ℕ, zero, suc}
@@ -30,20 +32,20 @@ module _ (y : Space) (l : List ℕ) where
   abbrev buffer : List ℕ → List ℕ
   buffer ws = ws ++ drop (length ws) l
 
-  narrowed-left : (h : Shows) → take (narrowed h vs y).free (buffer (left h vs)) ≡ left h vs
-  narrowed-left Always = ap (take y.free) (sym (take_rest y.free l))
-  narrowed-left (Unless m b) = restricted-left m b vs y _ _ _ refl refl
-  narrowed-left Neither = ap (take y.free) (sym (take_rest y.free l))
+  narrowed-left : (h : Shows) (z : Space) → narrowed h vs y ≡ Some z → take z.free (buffer (left h vs)) ≡ left h vs
+  narrowed-left Always z e = absurd (none-some z e)
+  narrowed-left (Unless m b) z e = restricted-left m b vs y z _ _ e refl
+  narrowed-left Neither z e = rw (sym (same_Some y z e)) (ap (take y.free) (sym (take_rest y.free l)))
 
   module _ (p : Pattern) (table : List ℕ) (t : ℕ) where
-    abbrev pub Entered : Space → List ℕ → Type 0
+    abbrev pub Entered : Option Space → List ℕ → Type 0
     Entered r out = (r ≡ forced p table t vs y) × (out ≡ buffer (forced_vectors p table t vs y))
 
     pub entered : (a h : Shows) → a ≡ across (row p.columns table t) p.bits y.lowest vs → a ≡ h
-        → (r : Space) (out : List ℕ) → r ≡ narrowed h vs y → out ≡ buffer (left h vs) → Entered r out
+        → (r : Option Space) (out : List ℕ) → r ≡ narrowed h vs y → out ≡ buffer (left h vs) → Entered r out
     unfolding forced forced_vectors
     entered a h e f r out q w = rw (sym e ∙ f) (q, w)
 
-    pub forced-left : (r : Space) (out : List ℕ) → r ≡ forced p table t vs y → out ≡ buffer (forced_vectors p table t vs y) → take r.free out ≡ forced_vectors p table t vs y
+    pub forced-left : (z : Space) (out : List ℕ) → Entered (Some z) out → take z.free out ≡ forced_vectors p table t vs y
     unfolding forced forced_vectors
-    forced-left r out e q = rw (e, q) (narrowed-left (across (row p.columns table t) p.bits y.lowest vs))
+    forced-left z out e = rw (e.1, forced_vectors) (narrowed-left (across (row p.columns table t) p.bits y.lowest vs) z (sym e.0))

@@ -8,7 +8,7 @@ use search_rows::Pattern;
 use search_showing::Shows;
 use search_space::Space;
 
-// The space, and in the buffer its vectors, where no member may show the pattern in a row: what the row forces is entered. Each member that does not show the row is kept.
+// The space, and in the buffer its vectors, where no member may show the pattern in a row: what the row forces is entered. Each member that does not show the row is kept; None says that there is none.
 // An inner function: its callers show that the table has the row.
 pub fn force_row(
     pattern: Pattern,
@@ -16,19 +16,15 @@ pub fn force_row(
     row: usize,
     vectors: &mut [u64],
     space: Space,
-) -> Space
+) -> Option<Space>
     requires { row * pattern.columns + pattern.columns ≤ length table.now }
     ensures answer { result ≡ forced pattern table.now row (take space.free vectors.old) space }
     ensures buffer { vectors.new ≡ forced_vectors pattern table.now row (take space.free vectors.old) space ++ drop (length (forced_vectors pattern table.now row (take space.free vectors.old) space)) vectors.old }
 {
     let shows = search_showing::across(pattern, table, row, space.lowest, vectors, space.free);
     match shows {
-        Shows::Always => Space {
-            lowest: space.lowest,
-            free: space.free,
-            some: false,
-        },
+        Shows::Always => None,
         Shows::Unless(mask, bit) => search_restrict::restrict(vectors, space, mask, bit),
-        Shows::Neither => space,
+        Shows::Neither => Some(space),
     }
 }

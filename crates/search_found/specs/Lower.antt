@@ -1,15 +1,13 @@
 -- What one search found beside what was found before.
 --     lower a b                     the lower of two that were found
 --     reached found x               what was found is x or lower
-use Rattle.std.specs.Prelude.{Bool, true, false, ℕ, leb}
-use Rattle.search_found.specs.declared.Found.{Found}
-use Rattle.search_found.specs.declared.Found.TheVariants.{State, Nothing}
+use Rattle.std.specs.Prelude.{Bool, true, false, ℕ, leb, None, Option, Some}
 
-abbrev pub lower : Found → Found → Found
-lower Nothing b = b
-lower (State s) Nothing = State s
-lower (State s) (State t) = elim (leb s t) [ true ↦ State s | false ↦ State t ]
+abbrev pub lower : Option ℕ → Option ℕ → Option ℕ
+lower None b = b
+lower (Some s) None = Some s
+lower (Some s) (Some t) = elim (leb s t) [ true ↦ Some s | false ↦ Some t ]
 
-abbrev pub reached : Found → ℕ → Bool
-reached Nothing x = false
-reached (State s) x = leb s x
+abbrev pub reached : Option ℕ → ℕ → Bool
+reached None x = false
+reached (Some s) x = leb s x

@@ -41,12 +41,10 @@ fn only(word: u64, bit: u64) -> u64
 pub fn reading(lowest: u64, vectors: &[u64], mask: u64) -> u64
     ensures { result ≡ readings lowest (take 6 vectors.now) mask }
 {
-    let count = words_bounded::lesser(VECTORS, vectors.len());
+    let count = VECTORS.min(vectors.len());
     let mut word = only(ALL, words_gf2::odd(lowest, mask));
-    let mut place: usize = 0;
-    while place < count {
-        word = word ^ only(digits(place), words_gf2::odd(vectors[place], mask));
-        place += 1;
+    for place in 0..count {
+        word ^= only(digits(place), words_gf2::odd(vectors[place], mask));
     }
     word
 }

@@ -1,13 +1,11 @@
 // The search for the lowest member of a space that shows a pattern in no row of a table: its members in rising blocks first, then branch and bound over the whole.
 #![tactic(auto)]
 
-ghost use Rattle.std.specs.Prelude.{◌≡◌, ℕ, ◌*◌, ◌≤◌, length, take};
+ghost use Rattle.std.specs.Prelude.{◌≡◌, ℕ, ◌*◌, ◌≤◌, length, take, Some};
 ghost use Rattle.search_space.specs.Space.{Rising};
 ghost use Rattle.search_found.specs.Search.{lowest_clear};
-ghost use Rattle.search_found.specs.declared.Found.TheVariants.{State};
 
 use search_branching::LEAF_VECTORS;
-use search_found::Found;
 use search_rows::Pattern;
 
 // How many of the last vectors are left to the search of the whole space.
@@ -22,23 +20,15 @@ fn rise(
     lowest: u64,
     vectors: [u64; 64],
     free: usize,
-) -> Found
+) -> Option<u64>
     requires rising { Rising lowest 0 (take free vectors) }
     requires columns_in_bounds { rows * pattern.columns ≤ length table.now }
-    ensures { (s : ℕ) → result ≡ State s → result ≡ lowest_clear pattern table.now rows lowest (take free vectors) }
+    ensures { (s : ℕ) → result ≡ Some s → result ≡ lowest_clear pattern table.now rows lowest (take free vectors) }
 {
-    let most = words_bounded::lesser(free, 64);
-    let mut count = words_bounded::lesser(most, LEAF_VECTORS);
-    let mut found = search_branching::branch(
-        pattern,
-        table,
-        rows,
-        lowest,
-        vectors,
-        count,
-        Found::Nothing,
-    );
-    while count + LAST_VECTORS < most {
+    let most = free.min(64);
+    let few = most.min(LEAF_VECTORS);
+    let mut found = search_branching::branch(pattern, table, rows, lowest, vectors, few, None);
+    for count in few..most.saturating_sub(LAST_VECTORS) {
         found = search_branching::branch(
             pattern,
             table,
@@ -48,7 +38,6 @@ fn rise(
             count,
             found,
         );
-        count += 1;
     }
     found
 }
@@ -62,16 +51,16 @@ pub fn lowest_clear(
     lowest: u64,
     vectors: [u64; 64],
     free: usize,
-) -> Found
+) -> Option<u64>
     requires rising { Rising lowest 0 (take free vectors) }
     requires columns_in_bounds { rows * pattern.columns ≤ length table.now }
     ensures { result ≡ lowest_clear pattern table.now rows lowest (take free vectors) }
 {
     if LEAF_VECTORS < free {
         let found = rise(pattern, table, rows, lowest, vectors, free);
-        if let Found::State(state) = found {
-            return Found::State(state);
+        if let Some(state) = found {
+            return Some(state);
         }
     }
-    search_branching::branch(pattern, table, rows, lowest, vectors, free, Found::Nothing)
+    search_branching::branch(pattern, table, rows, lowest, vectors, free, None)
 }

@@ -8,16 +8,14 @@ ghost use Rattle.search_members.specs.Members.{pick};
 pub fn member(lowest: u64, vectors: &[u64], free: usize, number: usize) -> u64
     ensures { result ≡ pick lowest (take free vectors.now) number }
 {
-    let count = words_bounded::lesser(free, vectors.len());
+    let count = free.min(vectors.len());
     let mut state = lowest;
     let mut left = number;
-    let mut place: usize = 0;
-    while place < count {
+    for &vector in &vectors[..count] {
         if left % 2 == 1 {
-            state = state ^ vectors[place];
+            state ^= vector;
         }
-        left = left / 2;
-        place += 1;
+        left /= 2;
     }
     state
 }

@@ -1,8 +1,8 @@
 -- Where the pivot of a mask stands.
---     first_odd mask vs     the place of the first vector that is odd under the mask, or their number where none is
-use Rattle.std.specs.Prelude.{true, false, List, [], ◌∷◌, ℕ, suc, eqb}
+--     first_odd mask vs     the place of the first vector that is odd under the mask, or None where none is
+use Rattle.std.specs.Prelude.{List, ℕ, eqb, Option}
+use Rattle.std.specs.List.{position_from}
 use Rattle.words_gf2.specs.Words.{odd}
 
-unfoldable pub first_odd : ℕ → List ℕ → ℕ
-first_odd mask [] = 0
-first_odd mask (v ∷ vs) = elim (eqb (odd v mask) 1) [ true ↦ 0 | false ↦ suc (first_odd mask vs) ]
+abbrev pub first_odd : ℕ → List ℕ → Option ℕ
+first_odd mask vs = position_from (λ v. eqb (odd v mask) 1) 0 vs

@@ -1,39 +1,35 @@
 // The pivot of a mask: the first vector that is odd under it, taken out of the vectors of a space.
 #![tactic(auto)]
 
-ghost use Rattle.std.specs.Prelude.{◌≡◌, map, ◌++◌, ◌+◌, ◌<◌, ◌≤◌, drop, get_or, length, take, ltb};
+ghost use Rattle.std.specs.Prelude.{◌≡◌, map, ◌++◌, ◌+◌, ◌<◌, ◌≤◌, drop, get_or, length, take, ltb, IfSome};
 ghost use Rattle.std.proofs.lemmas.List.Edits.{sets};
 ghost use Rattle.search_pivot.specs.Pivot.{added as added_of, pivot, without};
 ghost use Rattle.search_pivot.specs.FirstOdd.{first_odd};
 
-// What taking out the pivot of a mask gives: the pivot, or 0 where no vector is odd, and how many vectors are left.
+// What taking out the pivot of a mask gives: the pivot, or 0 where no vector is odd, and how many vectors are left. Adding 0 changes no state, so the pivot is no Option.
 #[derive(Clone, Copy)]
 pub struct Taken {
     pub pivot: u64,
     pub left: usize,
 }
 
-// The place of the first vector that is odd under the mask, or their number where none is.
-fn first_odd(vectors: &[u64], free: usize, mask: u64) -> usize
+// The place of the first vector that is odd under the mask, or None where none is.
+fn first_odd(vectors: &[u64], free: usize, mask: u64) -> Option<usize>
     requires { free ≤ length vectors.now }
-    ensures { result ≡ first_odd mask (take free vectors.now) }
+    ensures first { result ≡ first_odd mask (take free vectors.now) }
+    ensures within { IfSome result (λ place. place < free) }
 {
-    let mut place: usize = 0;
-    while place < free {
-        if words_gf2::odd(vectors[place], mask) == 1 {
-            return place;
-        }
-        place += 1;
-    }
-    place
+    vectors[..free]
+        .iter()
+        .position(|&candidate| words_gf2::odd(candidate, mask) == 1)
 }
 
 // Whether some of the first vectors of the buffer is odd under the mask, so that members differ there.
 pub fn splits(vectors: &[u64], free: usize, mask: u64) -> bool
     ensures { result ≡ ltb 0 (pivot mask (take free vectors.now)) }
 {
-    let count = words_bounded::lesser(free, vectors.len());
-    first_odd(vectors, count, mask) < count
+    let count = free.min(vectors.len());
+    first_odd(vectors, count, mask).is_some()
 }
 
 // A vector, with the pivot added where it is odd under the mask.
@@ -53,11 +49,8 @@ fn close_up(vectors: &mut [u64], free: usize, place: usize, mask: u64)
     ensures { vectors.new ≡ sets vectors.old place (map (added_of mask (get_or vectors.old place 0)) (drop (place + 1) (take free vectors.old))) }
 {
     let pivot = vectors[place];
-    let mut next = place + 1;
-    while next < free {
-        let vector = added(mask, pivot, vectors[next]);
-        vectors[next - 1] = vector;
-        next += 1;
+    for next in place + 1..free {
+        vectors[next - 1] = added(mask, pivot, vectors[next]);
     }
 }
 
@@ -66,14 +59,13 @@ pub fn take_out(vectors: &mut [u64], free: usize, mask: u64) -> Taken
     ensures answer { result ≡ record { pivot = pivot mask (take free vectors.old); left = length (without mask (take free vectors.old)) } }
     ensures buffer { vectors.new ≡ without mask (take free vectors.old) ++ drop (length (without mask (take free vectors.old))) vectors.old }
 {
-    let count = words_bounded::lesser(free, vectors.len());
-    let place = first_odd(vectors, count, mask);
-    if place == count {
+    let count = free.min(vectors.len());
+    let Some(place) = first_odd(vectors, count, mask) else {
         return Taken {
             pivot: 0,
             left: count,
         };
-    }
+    };
     let pivot = vectors[place];
     close_up(vectors, count, place, mask);
     Taken {

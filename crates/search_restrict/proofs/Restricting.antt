@@ -1,12 +1,16 @@
 -- A space restricted by an equation.
 --     shifted-same, shifted-other     the lowest member, by what the lowest member of the whole reads
---     shifted_none, restricted_single, single_left     a space of one state is only read
---     restricted_with, restricted-left     the answer of `restrict`, and its vectors read off the buffer
+--     shifted_none, single_yes, single_no, single_left     a space of one state is only read
+--     restricted_yes, restricted_no     the answer of `restrict`
+--     restricts, restricted-left     a space is left: it is the one that the equation gives, and its lowest member reads the bit; its vectors, read off the buffer
+--     restricted_none     none is left: the lowest member does not read the bit
 --     restrict_sound, restrict_complete     the members are exactly those of the whole that read the wanted bit
 --     restrict_rising                       the vectors rise still
 -- Assumes nothing.
 use mathlib.Core.Path.{◌≡◌, refl, sym, ap, ◌∙◌, subst}
-use mathlib.Core.Bool.{Bool, true, false, ◌&&◌}
+use Rattle.std.specs.Prelude.{Option, Some, None}
+use Rattle.std.proofs.lemmas.Option.{none-some, same_Some}
+use mathlib.Core.Bool.{Bool, true, false}
 use mathlib.Core.List.{List, ◌++◌}
 use Prim.Native.Nat.{ℕ, ◌<◌}
 use native.Mathlib.Omega.{arith}
@@ -36,9 +40,21 @@ shifted_none mask b x = go (eqb (odd x mask) b) refl
 
 -- a space of one state is only read
 module _ (mask b : ℕ) (l : List ℕ) (y : Space) (single : y.free ≡ 0) where
-  pub restricted_single : (o : Bool) → o ≡ (y.some && eqb (odd y.lowest mask) b) → record { lowest = y.lowest; free = 0; some = o } ≡ restricted mask b (take y.free l) y
-  unfolding restricted pivot without
-  restricted_single o e = rw (single, shifted_none mask b y.lowest, e)
+  same_lowest : shifted mask b y.lowest (pivot mask (take y.free l)) ≡ y.lowest
+  unfolding pivot
+  same_lowest = rw single (shifted_none mask b y.lowest)
+
+  none_free : length (without mask (take y.free l)) ≡ y.free
+  unfolding without
+  none_free = rw single
+
+  pub single_yes : odd y.lowest mask ≡ b → Some y ≡ restricted mask b (take y.free l) y
+  unfolding restricted
+  single_yes e = rw (restricted, eq-eqb (odd (shifted mask b y.lowest (pivot mask (take y.free l))) mask) b (ap (λ (u : ℕ). odd u mask) same_lowest ∙ e), same_lowest, none_free)
+
+  pub single_no : (odd y.lowest mask ≡ b → ⊥) → None ≡ restricted mask b (take y.free l) y
+  unfolding restricted
+  single_no n = rw (restricted, same_lowest, ne_eqb (odd y.lowest mask) b n)
 
   pub single_left : l ≡ without mask (take y.free l) ++ drop (length (without mask (take y.free l))) l
   unfolding without
@@ -55,20 +71,42 @@ module _ (mask b x p : ℕ) where
 
 -- ---- the answer of `restrict`
 module _ (mask b : ℕ) (vs : List ℕ) (y : Space) where
-  abbrev parts : ℕ → ℕ → Bool → Space
-  parts x n t = record { lowest = x; free = n; some = t }
+  abbrev part : ℕ → ℕ → Space
+  part x n = record { lowest = x; free = n }
 
-  pub restricted_with : (t : Taken) (x : ℕ) (s : Bool) → t ≡ record { pivot = pivot mask vs; left = length (without mask vs) }
-      → x ≡ shifted mask b y.lowest t.pivot → s ≡ (y.some && eqb (odd x mask) b) → parts x t.left s ≡ restricted mask b vs y
-  unfolding restricted
-  restricted_with t x s e q r =
-      let l : x ≡ shifted mask b y.lowest (pivot mask vs) = q ∙ ap (λ (u : Taken). shifted mask b y.lowest u.pivot) e in
-      rw (r, l, e)
+  abbrev first : ℕ
+  first = shifted mask b y.lowest (pivot mask vs)
 
-  -- its vectors, read off the buffer
-  pub restricted-left : (r : Space) (out rest : List ℕ) → r ≡ restricted mask b vs y → out ≡ without mask vs ++ rest → take r.free out ≡ without mask vs
+  module _ (t : Taken) (x : ℕ) (e : t ≡ record { pivot = pivot mask vs; left = length (without mask vs) }) (q : x ≡ shifted mask b y.lowest t.pivot) where
+    low_is : x ≡ first
+    low_is = q ∙ ap (λ (u : Taken). shifted mask b y.lowest u.pivot) e
+
+    pub restricted_yes : odd x mask ≡ b → Some (part x t.left) ≡ restricted mask b vs y
+    unfolding restricted
+    restricted_yes r = rw (restricted, eq-eqb (odd first mask) b (ap (λ (u : ℕ). odd u mask) (sym low_is) ∙ r), low_is, e)
+
+    pub restricted_no : (odd x mask ≡ b → ⊥) → None ≡ restricted mask b vs y
+    unfolding restricted
+    restricted_no n = rw (restricted, ne_eqb (odd first mask) b (λ r. n (ap (λ (u : ℕ). odd u mask) low_is ∙ r)))
+
+  -- what is left
+  abbrev rest_of : Bool → Option Space
+  rest_of t = elim t [ true ↦ Some (part first (length (without mask vs))) | false ↦ None ]
+
+  pub restricts : (r : Space) → restricted mask b vs y ≡ Some r → (r ≡ part first (length (without mask vs))) × (odd first mask ≡ b)
   unfolding restricted
-  restricted-left r out rest e q = rw (e, q) (take_at (without mask vs) rest (length (without mask vs)) refl)
+  restricts r = go (eqb (odd first mask) b) refl
+    where
+      go : (t : Bool) → eqb (odd first mask) b ≡ t → rest_of t ≡ Some r → (r ≡ part first (length (without mask vs))) × (odd first mask ≡ b)
+      go true e q = (sym (same_Some _ r q), eqb-true (odd first mask) b e)
+      go false e q = absurd (none-some r q)
+
+  pub restricted-left : (r : Space) (out rest : List ℕ) → restricted mask b vs y ≡ Some r → out ≡ without mask vs ++ rest → take r.free out ≡ without mask vs
+  restricted-left r out rest e q = rw ((restricts r e).0, q) (take_at (without mask vs) rest (length (without mask vs)) refl)
+
+  pub restricted_none : restricted mask b vs y ≡ None → odd first mask ≡ b → ⊥
+  unfolding restricted
+  restricted_none n e = none-some _ (sym (rw (restricted, eq-eqb (odd first mask) b e) at n))
 
 -- ---- what is left of a space
 

@@ -18,23 +18,24 @@ fn shifted(mask: u64, wanted: u64, lowest: u64, pivot: u64) -> u64
     }
 }
 
-// The members whose parity under the mask is the wanted one. A single state is only read.
-pub fn restrict(vectors: &mut [u64], space: Space, mask: u64, wanted: u64) -> Space
+// The members whose parity under the mask is the wanted one, or None where there is none. A single state is only read.
+pub fn restrict(vectors: &mut [u64], space: Space, mask: u64, wanted: u64) -> Option<Space>
     ensures answer { result ≡ restricted mask wanted (take space.free vectors.old) space }
     ensures buffer { vectors.new ≡ without mask (take space.free vectors.old) ++ drop (length (without mask (take space.free vectors.old))) vectors.old }
 {
     if space.free == 0 {
-        return Space {
-            lowest: space.lowest,
-            free: 0,
-            some: space.some && words_gf2::odd(space.lowest, mask) == wanted,
-        };
+        if words_gf2::odd(space.lowest, mask) == wanted {
+            return Some(space);
+        }
+        return None;
     }
     let taken = search_pivot::take_out(vectors, space.free, mask);
     let lowest = shifted(mask, wanted, space.lowest, taken.pivot);
-    Space {
+    if words_gf2::odd(lowest, mask) != wanted {
+        return None;
+    }
+    Some(Space {
         lowest,
         free: taken.left,
-        some: space.some && words_gf2::odd(lowest, mask) == wanted,
-    }
+    })
 }

@@ -2,7 +2,8 @@
 --     row_at, row-length     a mask of a row, and how many there are
 --     row-rest               the masks from one on: that one, and the rest
 --     reads_alike            two states with the same parities under each mask read alike
---     reads-next, reads_differs, reads_end     of a loop that goes up through a row: what is left decides
+--     masks-next, masks_differ, masks_end     of a loop that goes up through masks: what is left decides
+--     reads-next, reads_end  the same, through a row
 --     clear_at, none-clear, clear-front   a clear state shows the pattern in none of the rows, nor in the first of them
 --     row_fits               a row below the bound stands in the table
 -- Assumes nothing.
@@ -41,23 +42,31 @@ unfolding reads
 reads_alike [] bits s x h = refl
 reads_alike (m ∷ ms) bits s x h = rw (h 0 (zero-lt-suc (length ms)), reads_alike ms (bits / 2) s x (λ i l. h (suc i) (omega arith)))
 
--- ---- a loop that goes up through a row
+-- ---- a loop that goes up through masks
 
+module _ (ms : List ℕ) (s : ℕ) where
+  pub masks-next : (j bits : ℕ) → j < length ms → odd s (get_or ms j 0) ≡ bits % 2 → reads (drop j ms) bits s ≡ reads (drop (j + 1) ms) (bits / 2) s
+  unfolding reads
+  masks-next j bits h e = rw (add-one j, drop-cons ms j 0 h, reads, eq-eqb (odd s (get_or ms j 0)) (bits % 2) e)
+
+  pub masks_differ : (j bits : ℕ) → j < length ms → (odd s (get_or ms j 0) ≡ bits % 2 → ⊥) → false ≡ reads (drop j ms) bits s
+  unfolding reads
+  masks_differ j bits h n = rw (drop-cons ms j 0 h, reads, ne_eqb (odd s (get_or ms j 0)) (bits % 2) n)
+
+  pub masks_end : (j bits : ℕ) → length ms ≤ j → true ≡ reads (drop j ms) bits s
+  unfolding reads
+  masks_end j bits h = rw (drop_of_length-le ms {i = j} h)
+
+-- the same, through a row
 module _ (k : ℕ) (table : List ℕ) (t : ℕ) (fits : t * k + k ≤ length table) (s : ℕ) where
   abbrev R : List ℕ
   R = row k table t
 
   pub reads-next : (j bits : ℕ) → j < k → odd s (get_or table (t * k + j) 0) ≡ bits % 2 → reads (drop j R) bits s ≡ reads (drop (j + 1) R) (bits / 2) s
-  unfolding reads
-  reads-next j bits h e = rw (add-one j, row-rest k table t fits j h, reads, eq-eqb (odd s (get_or table (t * k + j) 0)) (bits % 2) e)
-
-  pub reads_differs : (j bits : ℕ) → j < k → (odd s (get_or table (t * k + j) 0) ≡ bits % 2 → ⊥) → false ≡ reads (drop j R) bits s
-  unfolding reads
-  reads_differs j bits h n = rw (row-rest k table t fits j h, reads, ne_eqb (odd s (get_or table (t * k + j) 0)) (bits % 2) n)
+  reads-next j bits h e = masks-next R s j bits (rw (row-length k table t fits) h) (ap (odd s) (row_at k table t fits j h) ∙ e)
 
   pub reads_end : (j bits : ℕ) → k ≤ j → true ≡ reads (drop j R) bits s
-  unfolding reads
-  reads_end j bits h = rw (drop_of_length-le R {i = j} (omega (arith, row-length k table t fits)))
+  reads_end j bits h = masks_end R s j bits (rw (row-length k table t fits) h)
 
 -- ---- clear states
 

@@ -20,29 +20,25 @@ fn shown(pattern: Pattern, table: &[u64], row: usize, state: u64) -> bool
     let columns = pattern.columns;
     let first = row * columns;
     let mut bits = pattern.bits;
-    let mut column: usize = 0;
-    while column < columns {
-        if words_gf2::odd(state, table[first + column]) != bits % 2 {
+    for &mask in &table[first..first + columns] {
+        if words_gf2::odd(state, mask) != bits % 2 {
             return false;
         }
-        bits = bits / 2;
-        column += 1;
+        bits /= 2;
     }
     true
 }
 
-// The first row below the bound in which a state shows the pattern, or the bound.
+// The first row below the bound in which a state shows the pattern, or None where there is none.
 // An inner function: its callers show that the table has so many rows.
-pub fn first_shown(pattern: Pattern, table: &[u64], rows: usize, state: u64) -> usize
+pub fn first_shown(pattern: Pattern, table: &[u64], rows: usize, state: u64) -> Option<usize>
     requires { rows * pattern.columns ≤ length table.now }
     ensures { result ≡ first_shown pattern table.now rows state }
 {
-    let mut row: usize = 0;
-    while row < rows {
+    for row in 0..rows {
         if shown(pattern, table, row, state) {
-            return row;
+            return Some(row);
         }
-        row += 1;
     }
-    row
+    None
 }

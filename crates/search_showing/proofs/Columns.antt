@@ -1,21 +1,19 @@
 -- How the members of a space show a row: of a loop that goes up through its columns.
 --     column-splits, column-reads, column_differs     one column
 --     together-whole, together_assoc     the parts of a row in one, from either end
---     across-next, across_neither, across_end     what is done together with what is left is the whole
+--     across-next, across_end     what is done together with what is left is the whole
 -- Assumes nothing.
 use mathlib.Core.Path.{◌≡◌, refl, sym, ◌∙◌}
 use mathlib.Core.Bool.{true, false}
 use mathlib.Core.List.{List}
-use Prim.Native.Nat.{ℕ, suc, ◌+◌, ◌-◌, ◌*◌, ◌/◌, ◌%◌, ◌≤◌, ◌<◌}
+use Prim.Native.Nat.{ℕ, suc, ◌+◌, ◌-◌, ◌/◌, ◌%◌, ◌≤◌, ◌<◌}
 use native.Mathlib.Numerals.{add-one}
-use native.Mathlib.Omega.{arith}
 use lib.Dec.{ltb}
 use lib.ListN.{get_or, length, drop, drop_of_length-le}
+use lib.Seq.{drop-cons}
 use borrow.Author.Tests.{eq-eqb, ne_eqb}
 use Rattle.words_gf2.specs.Words.{odd}
 use Rattle.search_pivot.specs.Pivot.{pivot}
-use Rattle.search_rows.specs.Rows.{row}
-use Rattle.search_rows.proofs.Reading.{row-length, row-rest}
 use Rattle.search_showing.specs.Showing.{across, column, together}
 use Rattle.search_showing.specs.declared.Shows.{Shows}
 use Rattle.search_showing.specs.declared.Shows.TheVariants.{Always, Unless, Neither}
@@ -47,19 +45,15 @@ together_assoc (Unless m b) (Unless n c) Neither = refl
 together_assoc (Unless m b) Neither r = refl
 together_assoc Neither q r = refl
 
-module _ (k : ℕ) (table : List ℕ) (t : ℕ) (fits : t * k + k ≤ length table) (x : ℕ) (vs : List ℕ) where
-  abbrev R : List ℕ
-  R = row k table t
+-- ---- a loop over the masks ms of a row
 
+module _ (ms : List ℕ) (x : ℕ) (vs : List ℕ) where
   -- one column more; w is the whole row
-  pub across-next : {w : Shows} (j bits : ℕ) (p d q : Shows) → j < k → d ≡ column (get_or table (t * k + j) 0) (bits % 2) x vs → q ≡ together p d
-      → w ≡ together p (across (drop j R) bits x vs) → w ≡ together q (across (drop (j + 1) R) (bits / 2) x vs)
+  pub across-next : {w : Shows} (j bits : ℕ) (p d q : Shows) → j < length ms → d ≡ column (get_or ms j 0) (bits % 2) x vs → q ≡ together p d
+      → w ≡ together p (across (drop j ms) bits x vs) → w ≡ together q (across (drop (j + 1) ms) (bits / 2) x vs)
   unfolding across
-  across-next j bits p d q h e f i = i ∙ rw (add-one j, row-rest k table t fits j h, f, e) (sym (together_assoc p (column (get_or table (t * k + j) 0) (bits % 2) x vs) (across (drop (suc j) R) (bits / 2) x vs)))
+  across-next j bits p d q h e f i = i ∙ rw (add-one j, drop-cons ms j 0 h, f, e) (sym (together_assoc p (column (get_or ms j 0) (bits % 2) x vs) (across (drop (suc j) ms) (bits / 2) x vs)))
 
-  pub across_neither : {w : Shows} (j bits : ℕ) (q : Shows) → w ≡ together q (across (drop j R) bits x vs) → q ≡ Neither → Neither ≡ w
-  across_neither j bits q i e = sym (i ∙ rw e)
-
-  pub across_end : {w : Shows} (j bits : ℕ) (p : Shows) → k ≤ j → w ≡ together p (across (drop j R) bits x vs) → p ≡ w
+  pub across_end : {w : Shows} (j bits : ℕ) (p : Shows) → length ms ≤ j → w ≡ together p (across (drop j ms) bits x vs) → p ≡ w
   unfolding across
-  across_end j bits p h i = sym (i ∙ rw (drop_of_length-le R {i = j} (omega (arith, row-length k table t fits))) (together-whole p))
+  across_end j bits p h i = sym (i ∙ rw (drop_of_length-le ms {i = j} h) (together-whole p))

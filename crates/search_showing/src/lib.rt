@@ -59,17 +59,16 @@ pub fn across(
 {
     let columns = pattern.columns;
     let first = row * columns;
+    let masks = &table[first..first + columns];
     let mut bits = pattern.bits;
     let mut shows = Shows::Always;
-    let mut place: usize = 0;
-    while place < columns {
-        let one = column(table[first + place], bits % 2, lowest, vectors, free);
+    for &mask in masks {
+        let one = column(mask, bits % 2, lowest, vectors, free);
         shows = together(shows, one);
         if let Shows::Neither = shows {
             return Shows::Neither;
         }
         bits = bits / 2;
-        place += 1;
     }
     shows
 }

@@ -1,10 +1,14 @@
 -- The first clear member of a group of a leaf.
---     FirstClear p table m x vs n i        lane i, or 64 where there is none, is the first from number n on whose member is clear
-use Rattle.std.specs.Prelude.{◌≡◌, true, false, List, ℕ, ◌+◌, ◌<◌}
+--     lane_clear p table m x vs n j        the member of lane j, from number n on, is clear
+--     FirstClear p table m x vs n r        r is the first lane of 64, from number n on, whose member is clear; None where none of the 64 is
+use Rattle.std.specs.Prelude.{List, ℕ, ◌+◌, Bool, Option, MatchOption}
+use Rattle.words_bounded.specs.Bounded.{NoneBelow, Least}
 use Rattle.search_members.specs.Members.{pick}
 use Rattle.search_rows.specs.declared.Pattern.{Pattern}
 use Rattle.search_rows.specs.Rows.{clear}
 
-pub record FirstClear (p : Pattern) (table : List ℕ) (m x : ℕ) (vs : List ℕ) (n i : ℕ) : Type 0 where
-  pub before : (j : ℕ) → j < i → clear p table m (pick x vs (n + j)) ≡ false
-  pub here : i < 64 → clear p table m (pick x vs (n + i)) ≡ true
+abbrev pub lane_clear : Pattern → List ℕ → ℕ → ℕ → List ℕ → ℕ → ℕ → Bool
+lane_clear p table m x vs n j = clear p table m (pick x vs (n + j))
+
+abbrev pub FirstClear : Pattern → List ℕ → ℕ → ℕ → List ℕ → ℕ → Option ℕ → Type 0
+FirstClear p table m x vs n r = MatchOption r (NoneBelow (lane_clear p table m x vs n) 64) (Least (lane_clear p table m x vs n) 64)

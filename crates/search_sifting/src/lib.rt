@@ -11,10 +11,9 @@ ghost use Rattle.search_found.specs.Search.{lowest_clear};
 ghost use Rattle.search_found.specs.Lower.{lower};
 ghost use Rattle.search_sifting.specs.Clear.{FirstClear};
 
-use search_found::Found;
 use search_rows::Pattern;
 
-// The first lane of a group whose member is clear, or 64. The lanes that are dead are known not to be.
+// The first lane of a group whose member is clear, or None. The lanes that are dead are known not to be.
 fn clear_lane(
     pattern: Pattern,
     table: &[u64],
@@ -24,24 +23,22 @@ fn clear_lane(
     free: usize,
     group: usize,
     dead: u64,
-) -> usize
+) -> Option<usize>
     requires table { rows * pattern.columns ≤ length table.now }
     requires group { group < 64 }
     requires dead { (i : ℕ) → i < 64 → digit dead i ≡ 1 → clear pattern table.now rows (pick lowest (take free vectors.now) (group * 64 + i)) ≡ false }
     ensures { FirstClear pattern table.now rows lowest (take free vectors.now) (group * 64) result }
 {
     let base = group * 64;
-    let mut lane: usize = 0;
-    while lane < 64 {
+    for lane in 0..64 {
         if words_gf2::digit(dead, lane) == 0 {
             let state = search_members::member(lowest, vectors, free, base + lane);
-            if search_rows::first_shown(pattern, table, rows, state) == rows {
-                return lane;
+            if search_rows::first_shown(pattern, table, rows, state).is_none() {
+                return Some(lane);
             }
         }
-        lane += 1;
     }
-    lane
+    None
 }
 
 // The groups of a leaf in rising order: 64 members at a time are sifted by the words, and those that are left are tried one by one, up to what was found before.
@@ -55,8 +52,8 @@ pub fn sift(
     free: usize,
     words: &[u64],
     count: usize,
-    before: Found,
-) -> Found
+    before: Option<u64>,
+) -> Option<u64>
     requires leaf { LeafSized pattern free × (free ≤ length vectors.now) }
     requires rising { Rising lowest 0 (take free vectors.now) }
     requires table { rows * pattern.columns ≤ length table.now }
@@ -65,8 +62,7 @@ pub fn sift(
 {
     let columns = pattern.columns;
     let groups = 1usize << (free - search_lanes::VECTORS);
-    let mut group: usize = 0;
-    while group < groups {
+    for group in 0..groups {
         let dead = search_excluding::dead_lanes(words, columns, count, group);
         if dead != search_lanes::ALL {
             if search_found::reached(
@@ -75,15 +71,15 @@ pub fn sift(
             ) {
                 return before;
             }
-            let lane = clear_lane(pattern, table, rows, lowest, vectors, free, group, dead);
-            if lane < 64 {
+            if let Some(lane) = clear_lane(
+                pattern, table, rows, lowest, vectors, free, group, dead,
+            ) {
                 return search_found::lower_of(
                     before,
                     search_members::member(lowest, vectors, free, group * 64 + lane),
                 );
             }
         }
-        group += 1;
     }
     before
 }

@@ -4,12 +4,11 @@
 ghost use Rattle.std.specs.Prelude.{◌≡◌};
 ghost use Rattle.search_space.specs.Space.{units as units_of};
 
-// A space: its lowest member, how many entries of the buffer are its vectors, and whether it has a member at all.
+// A space: its lowest member, and how many entries of the buffer are its vectors. It has a member always.
 #[derive(Clone, Copy)]
 pub struct Space {
     pub lowest: u64,
     pub free: usize,
-    pub some: bool,
 }
 
 // The unit vectors of 64 cells. With lowest member 0, the first of them give all states of that many cells.
@@ -17,10 +16,8 @@ pub fn units() -> [u64; 64]
     ensures { result ≡ units_of 0 64 }
 {
     let mut vectors = [0u64; 64];
-    let mut cell: usize = 0;
-    while cell < 64 {
-        vectors[cell] = 1u64 << cell;
-        cell += 1;
+    for (cell, vector) in vectors.iter_mut().enumerate() {
+        *vector = 1u64 << cell;
     }
     vectors
 }

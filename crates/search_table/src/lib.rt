@@ -38,11 +38,8 @@ pub fn fill(taps: u64, masks: &[u64], rows: usize, table: &mut [u64])
     ensures { table.new ≡ rows_of taps rows masks.now ++ drop (rows * length masks.now) table.old }
 {
     let count = rows * masks.len();
-    let mut place: usize = 0;
-    while place < count {
-        let mask = entry(taps, masks, table, place);
-        table[place] = mask;
-        place += 1;
+    for place in 0..count {
+        table[place] = entry(taps, masks, table, place);
     }
 }
 
@@ -55,14 +52,12 @@ pub fn choose(specified: u64, masks: &[u64], chosen: &mut [u64]) -> usize
 {
     let mut left = specified;
     let mut count: usize = 0;
-    let mut chain: usize = 0;
-    while chain < masks.len() {
+    for &mask in masks {
         if left % 2 == 1 {
-            chosen[count] = masks[chain];
+            chosen[count] = mask;
             count += 1;
         }
-        left = left / 2;
-        chain += 1;
+        left /= 2;
     }
     count
 }
@@ -71,12 +66,10 @@ pub fn choose(specified: u64, masks: &[u64], chosen: &mut [u64]) -> usize
 pub fn pack(specified: u64, bits: u64, chains: usize) -> u64
     ensures { result ≡ packed specified bits (min 64 chains) }
 {
-    let mut left = words_bounded::lesser(64, chains);
     let mut word: u64 = 0;
-    while 0 < left {
-        left -= 1;
-        if words_gf2::digit(specified, left) == 1 {
-            word = word * 2 + words_gf2::digit(bits, left);
+    for position in (0..chains.min(64)).rev() {
+        if words_gf2::digit(specified, position) == 1 {
+            word = word * 2 + words_gf2::digit(bits, position);
         }
     }
     word

@@ -3,9 +3,9 @@
 --     weighed-set, weighed_unset     a choice at a set position, and at an unset one
 --     weigh-next                 the best of the choices below q, and one choice more
 -- Assumes nothing.
+use Rattle.std.specs.Prelude.{None, Option, Some}
 use mathlib.Core.Path.{◌≡◌, refl, ap}
 use mathlib.Core.Bool.{Bool, true, false}
-use mathlib.Core.Option.{Option, none, some}
 use mathlib.Core.List.{List}
 use Prim.Native.Nat.{ℕ, ◌+◌, ◌/◌, ◌%◌, ◌≤◌, ◌<◌}
 use native.Mathlib.Numerals.{add-one}
@@ -18,25 +18,24 @@ use Rattle.machine_slices.specs.declared.TestSlice.{TestSlice}
 use Rattle.machine_slices.specs.Slices.{paired}
 use Rattle.stop_steps.specs.Steps.{is_set, put, better, choice}
 use Rattle.stop_steps.specs.Lookup.{BitsSpecified, in_count}
-use Rattle.stop_choice.specs.Choosing.{tracked, track, count_in, weighed}
+use Rattle.stop_choice.specs.Choosing.{counted, tracked, track, count_in, weighed}
 use Rattle.stop_steps.proofs.Lookup.{free_unset, count_in_lem}
 use Rattle.stop_choice.specs.declared.Best.{Best}
-use Rattle.stop_choice.specs.declared.Best.TheVariants.{Choice}
 
-pub track_more : (q n r most : ℕ) → most < n → track q n (Choice r most) ≡ Choice q n
+pub track_more : (q n r most : ℕ) → most < n → track q n (counted r most) ≡ counted q n
 unfolding track
 track_more q n r most h = rw (lt-ltb most n h, track)
 
-pub track_less : (q n r most : ℕ) → n ≤ most → track q n (Choice r most) ≡ Choice r most
+pub track_less : (q n r most : ℕ) → n ≤ most → track q n (counted r most) ≡ counted r most
 unfolding track
 track_less q n r most h = rw (le-ltb most n h, track)
 
 tracked-better : (counts : ℕ → ℕ) (q : ℕ) (o : Option ℕ) → track q (counts q) (tracked counts o) ≡ tracked counts (better counts q o)
 unfolding better track
-tracked-better counts q none = refl
-tracked-better counts q (some r) = go (ltb (counts r) (counts q))
+tracked-better counts q None = refl
+tracked-better counts q (Some r) = go (ltb (counts r) (counts q))
   where
-    go : (b : Bool) → elim b [ true ↦ Choice q (counts q) | false ↦ Choice r (counts r) ] ≡ tracked counts (elim b [ true ↦ some q | false ↦ some r ])
+    go : (b : Bool) → elim b [ true ↦ counted q (counts q) | false ↦ counted r (counts r) ] ≡ tracked counts (elim b [ true ↦ Some q | false ↦ Some r ])
     go true = refl
     go false = refl
 
@@ -44,7 +43,7 @@ module _ (stop : TestSlice) (specified bits : List ℕ) where
   abbrev counts : ℕ → ℕ
   counts = count_in stop specified bits
 
-  module _ (q : ℕ) (best : Best) where
+  module _ (q : ℕ) (best : Option Best) where
     pub weighed-set : (digit stop.specified (q / 2) ≡ 0 → ⊥) → weighed stop specified bits q best ≡ best
     unfolding weighed
     weighed-set h = rw (eq-eqb (digit stop.specified (q / 2)) 1 (omega (arith, digit_lt stop.specified (q / 2))), weighed)

@@ -7,31 +7,38 @@ ghost use Rattle.stop_choice.specs.Choosing.{track, weighed, chosen, next_of};
 
 use machine_slices::TestSlice;
 
-// The best of the choices seen: a choice and its count. A choice is a position and a bit as one number, position * 2 + bit.
+// The best of the choices seen, with its count. A choice is a position and a bit as one number, position * 2 + bit.
 #[derive(Clone, Copy)]
-enum Best {
-    Nothing,
-    Choice(usize, usize),
+struct Best {
+    choice: usize,
+    count: usize,
 }
 
 // A choice with its count against the best of the lower ones: it must have a greater count.
-fn better(best: Best, choice: usize, count: usize) -> Best
+fn better(best: Option<Best>, choice: usize, count: usize) -> Option<Best>
     ensures { result ≡ track choice count best }
 {
     match best {
-        Best::Nothing => Best::Choice(choice, count),
-        Best::Choice(other, most) => {
+        None => Some(Best { choice, count }),
+        Some(other) => {
+            let most = other.count;
             if most < count {
-                Best::Choice(choice, count)
+                Some(Best { choice, count })
             } else {
-                Best::Choice(other, most)
+                best
             }
         }
     }
 }
 
 // The best choice when one choice more is weighed; a set position is never counted again.
-fn weigh(best: Best, stop: TestSlice, choice: usize, specified: &[u64], bits: &[u64]) -> Best
+fn weigh(
+    best: Option<Best>,
+    stop: TestSlice,
+    choice: usize,
+    specified: &[u64],
+    bits: &[u64],
+) -> Option<Best>
     requires choice { choice < 128 }
     requires stop { BitsSpecified stop }
     ensures { result ≡ weighed stop specified.now bits.now choice best }
@@ -51,16 +58,14 @@ fn weigh(best: Best, stop: TestSlice, choice: usize, specified: &[u64], bits: &[
 // The choice of a step: the greatest count, on a tie the leftmost position, and there the 0s before the 1s.
 // Not inlined: the caller's frame would be larger than the stack that c/seeds.h promises for a stop slice.
 #[inline(never)]
-fn choose(chains: usize, stop: TestSlice, specified: &[u64], bits: &[u64]) -> Best
+fn choose(chains: usize, stop: TestSlice, specified: &[u64], bits: &[u64]) -> Option<Best>
     requires chains { chains ≤ 64 }
     requires stop { BitsSpecified stop }
     ensures { result ≡ chosen chains stop specified.now bits.now }
 {
-    let mut best = Best::Nothing;
-    let mut choice = 0;
-    while choice < 2 * chains {
+    let mut best = None;
+    for choice in 0..2 * chains {
         best = weigh(best, stop, choice, specified, bits);
-        choice += 1;
     }
     best
 }
@@ -77,7 +82,10 @@ pub fn next(chains: usize, stop: TestSlice, specified: &[u64], bits: &[u64]) -> 
     }
     let best = choose(chains, stop, specified, bits);
     match best {
-        Best::Nothing => stop,
-        Best::Choice(choice, _) => stop_counting::put(stop, choice / 2, (1 - choice % 2) as u64),
+        None => stop,
+        Some(best) => {
+            let choice = best.choice;
+            stop_counting::put(stop, choice / 2, (1 - choice % 2) as u64)
+        }
     }
 }

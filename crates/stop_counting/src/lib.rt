@@ -22,20 +22,11 @@ fn is_in(stop: TestSlice, test: TestSlice) -> bool
 pub fn count_in(stop: TestSlice, specified: &[u64], bits: &[u64]) -> usize
     ensures { result ≡ in_count stop specified.now bits.now }
 {
-    let slices = words_bounded::lesser(specified.len(), bits.len());
-    let mut count = 0;
-    let mut i = 0;
-    while i < slices {
-        let test = TestSlice {
-            specified: specified[i],
-            bits: bits[i],
-        };
-        if is_in(stop, test) {
-            count += 1;
-        }
-        i += 1;
-    }
-    count
+    specified
+        .iter()
+        .zip(bits)
+        .filter(|&(&specified, &bits)| is_in(stop, TestSlice { specified, bits }))
+        .count()
 }
 
 // The stop slice with an unset position set to a bit.

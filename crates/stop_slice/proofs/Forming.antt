@@ -1,12 +1,11 @@
 -- The end of the steps, and the spare pattern behind them.
---     spare-stop, spare_six                the answer of the search for a spare pattern
 --     stage_specified, next-stage          the stop slice of a stage; one step more
 --     form-stop                            the answer when the steps have ended with no slice in
 --     form_few, form-spared                and with slices in: there are no more patterns than slices, and the spare pattern is the answer
 -- Assumes nothing.
-use mathlib.Core.Path.{◌≡◌, refl, sym, ap, ◌∙◌}
+use Rattle.std.specs.Prelude.{None, Ok, Option, Some}
+use mathlib.Core.Path.{◌≡◌, sym, ap, ◌∙◌}
 use mathlib.Core.Bool.{true, false}
-use mathlib.Core.Option.{Option, none, some}
 use mathlib.Core.List.{List}
 use Prim.Native.Nat.{ℕ, ◌+◌, ◌^◌, ◌≤◌}
 use native.Mathlib.Numerals.{add-one}
@@ -19,24 +18,9 @@ use Rattle.stop_steps.specs.Lookup.{BitsSpecified, in_count}
 use Rattle.stop_spare.specs.Spare.{spare_stop}
 use Rattle.stop_choice.specs.Choosing.{in_of, next_of}
 use Rattle.stop_slice.specs.Entry.{stop_or6}
-use Rattle.stop_slice.specs.declared.Formed.TheVariants.{Stop, Refused}
-use Rattle.stop_spare.specs.Answer.{pattern_of}
-use Rattle.stop_spare.specs.declared.Pattern.TheVariants.{Spare, AllTaken}
-use Rattle.refusal_causes.specs.declared.Cause.TheVariants as cause
 use Rattle.stop_steps.proofs.Stages.{stage_sound, looked_up}
 use Rattle.stop_steps.proofs.Meaning.{left_in, decided, spared}
 use Rattle.stop_choice.proofs.OneStep.{empty_zero, empty_more}
-
--- the answer of the search for a spare pattern
-pub spare-stop : (o : Option TestSlice) (stop : TestSlice) → pattern_of o ≡ Spare stop → Stop stop ≡ stop_or6 o
-unfolding stop_or6
-spare-stop none stop e = absurd (let z : ◌≡◌ {A = ℕ} 0 1 = cc in omega arith)
-spare-stop (some s) stop e = ap Stop (let q : s ≡ stop = cc in sym q)
-
-pub spare_six : (o : Option TestSlice) → pattern_of o ≡ AllTaken → Refused cause.AllTaken ≡ stop_or6 o
-unfolding stop_or6
-spare_six none e = refl
-spare_six (some s) e = absurd (let z : ◌≡◌ {A = ℕ} 0 1 = cc in omega arith)
 
 module _ (chains : ℕ) (specified bits : List ℕ) where
   abbrev set : List TestSlice
@@ -55,7 +39,7 @@ module _ (chains : ℕ) (specified bits : List ℕ) where
 
   -- what the steps give, by whether a slice is in
   by : List TestSlice → Option TestSlice
-  by l = elim (is_empty l) [ true ↦ some (stage chains set chains).stop | false ↦ none ]
+  by l = elim (is_empty l) [ true ↦ Some (stage chains set chains).stop | false ↦ None ]
 
   given : steps chains set ≡ by (in_of (stage chains set chains).stop specified bits)
   unfolding steps ended by
@@ -65,13 +49,13 @@ module _ (chains : ℕ) (specified bits : List ℕ) where
     ends : (stage chains set chains).stop ≡ stop
     ends = sym (here ∙ rw last)
 
-    pub form-stop : in_count stop specified bits ≡ 0 → Stop stop ≡ stop_or6 (stop_for chains set)
+    pub form-stop : in_count stop specified bits ≡ 0 → Ok stop ≡ stop_or6 (stop_for chains set)
     unfolding in_count by stop_or6
     form-stop e =
-        let d : steps chains set ≡ some stop = given ∙ rw (ends, empty_zero (in_of stop specified bits) e, by) (ap some ends) in
+        let d : steps chains set ≡ Some stop = given ∙ rw (ends, empty_zero (in_of stop specified bits) e, by) (ap Some ends) in
         sym (ap stop_or6 (decided chains set stop d))
 
-    steps-none : (in_count stop specified bits ≡ 0 → ⊥) → steps chains set ≡ none
+    steps-none : (in_count stop specified bits ≡ 0 → ⊥) → steps chains set ≡ None
     unfolding in_count by
     steps-none f = given ∙ rw (ends, empty_more (in_of stop specified bits) f, by)
 

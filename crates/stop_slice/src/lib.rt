@@ -10,29 +10,17 @@ ghost use Rattle.stop_slice.specs.Meaning.{FormedMeaning};
 
 use machine_slices::TestSlice;
 use refusal_causes::Cause;
-use refusal_order::Verdict;
-use stop_spare::Pattern;
-
-// The answer of the call for a stop slice.
-#[derive(Clone, Copy)]
-pub enum Formed {
-    Stop(TestSlice),
-    Refused(Cause),
-}
 
 // The spare pattern, or cause 6 where all are taken. There are no more patterns than slices where the steps end with slices in.
-fn spared(chains: usize, specified: &[u64], bits: &[u64]) -> Formed
+fn spared(chains: usize, specified: &[u64], bits: &[u64]) -> Result<TestSlice, Cause>
     requires few { 2 ^ chains ≤ length (paired specified.now bits.now) }
     ensures { result ≡ stop_or6 (spare_stop chains (paired specified.now bits.now)) }
 {
-    match stop_spare::spare(chains, specified, bits) {
-        Pattern::Spare(pattern) => Formed::Stop(pattern),
-        Pattern::AllTaken => Formed::Refused(Cause::AllTaken),
-    }
+    stop_spare::spare(chains, specified, bits).ok_or(Cause::AllTaken)
 }
 
 // The stop slice that the steps end with; where slices are in then, the spare pattern, or cause 6. Each step sets a position, so there are at most as many as chains.
-fn form(chains: usize, specified: &[u64], bits: &[u64]) -> Formed
+fn form(chains: usize, specified: &[u64], bits: &[u64]) -> Result<TestSlice, Cause>
     requires { chains ≤ 64 }
     ensures { result ≡ stop_or6 (stop_for chains (paired specified.now bits.now)) }
 {
@@ -40,27 +28,22 @@ fn form(chains: usize, specified: &[u64], bits: &[u64]) -> Formed
         specified: 0,
         bits: 0,
     };
-    let mut steps = 0;
-    while steps < chains {
+    for _ in 0..chains {
         stop = stop_choice::next(chains, stop, specified, bits);
-        steps += 1;
     }
     let left = stop_counting::count_in(stop, specified, bits);
     if left == 0 {
-        Formed::Stop(stop)
+        Ok(stop)
     } else {
         spared(chains, specified, bits)
     }
 }
 
 // The stop slice of a set, or causes 2, 3, 4 and 6.
-pub fn stop_slice(chains: usize, specified: &[u64], bits: &[u64]) -> Formed
+pub fn stop_slice(chains: usize, specified: &[u64], bits: &[u64]) -> Result<TestSlice, Cause>
     ensures answer { result ≡ stop_of chains specified.now bits.now }
     ensures meaning { FormedMeaning chains specified.now bits.now result }
 {
-    let verdict = refusal_checks::check_stop(chains, specified, bits);
-    match verdict {
-        Verdict::Refused(cause) => Formed::Refused(cause),
-        Verdict::WellFormed => form(chains, specified, bits),
-    }
+    refusal_checks::check_stop(chains, specified, bits)?;
+    form(chains, specified, bits)
 }

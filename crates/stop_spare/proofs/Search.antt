@@ -6,10 +6,10 @@
 --     all_taken                     where there is none, every pattern is taken
 --     patterns_fit                  no more patterns than slices: their number fits a word
 -- Assumes nothing.
+use Rattle.std.specs.Prelude.{None, Option, Some}
 use mathlib.Core.Path.{◌≡◌, sym, ap}
 use mathlib.Core.Logic.{⊎_elim}
 use mathlib.Core.Bool.{Bool, true, false, not}
-use mathlib.Core.Option.{Option, none, some}
 use mathlib.Core.List.{List}
 use Prim.Native.Nat.{ℕ, ◌+◌, ◌^◌, ◌≤◌, ◌<◌}
 use native.Mathlib.Nat.{eq-or-lt_of_le}
@@ -41,11 +41,11 @@ module _ (chains : ℕ) (set : List TestSlice) where
       let l : v ≤ n = omega arith in
       ⊎_elim (λ e. rw e t) (λ l. p v l) (eq-or-lt_of_le l)
 
-  pub spare-found : (n : ℕ) → n < 2 ^ chains → Passed n → any (equals (full chains n)) set ≡ false → spare_stop chains set ≡ some (full chains n)
+  pub spare-found : (n : ℕ) → n < 2 ^ chains → Passed n → any (equals (full chains n)) set ≡ false → spare_stop chains set ≡ Some (full chains n)
   unfolding spare_stop spare taken
   spare-found n h p f = rw (least_of free (2 ^ chains) n h (none_free n p) (rw f), spare_stop)
 
-  pub spare-none : Passed (2 ^ chains) → spare_stop chains set ≡ none
+  pub spare-none : Passed (2 ^ chains) → spare_stop chains set ≡ None
   unfolding spare_stop spare
   spare-none p = rw (none_of free (2 ^ chains) (none_free (2 ^ chains) p), spare_stop)
 
@@ -56,13 +56,13 @@ module _ (chains : ℕ) (set : List TestSlice) where
     pub untaken : taken chains set number ≡ false
     pub smaller_taken : Passed number
 
-  pub spared : (stop : TestSlice) → spare_stop chains set ≡ some stop → Spared stop
+  pub spared : (stop : TestSlice) → spare_stop chains set ≡ Some stop → Spared stop
   unfolding spare_stop spare
   spared stop e = go (least_below free (2 ^ chains)) (least_is free (2 ^ chains)) e
     where
-      go : (o : Option ℕ) → LeastIs free (2 ^ chains) o → ◌≡◌ {A = Option TestSlice} (elim o [ some v ↦ some (full chains v) | none ↦ none ]) (some stop) → Spared stop
-      go none all same = absurd (let z : ◌≡◌ {A = ℕ} 0 1 = cc in omega arith)
-      go (some v) l same = record {
+      go : (o : Option ℕ) → LeastIs free (2 ^ chains) o → ◌≡◌ {A = Option TestSlice} (elim o [ Some v ↦ Some (full chains v) | None ↦ None ]) (Some stop) → Spared stop
+      go None all same = absurd (let z : ◌≡◌ {A = ℕ} 0 1 = cc in omega arith)
+      go (Some v) l same = record {
         number = v;
         pattern = (let q : full chains v ≡ stop = cc in sym q);
         below = l.below;
@@ -70,13 +70,13 @@ module _ (chains : ℕ) (set : List TestSlice) where
         smaller_taken = λ w h. not-false (taken chains set w) (l.least w h);
       }
 
-  pub all_taken : spare_stop chains set ≡ none → Passed (2 ^ chains)
+  pub all_taken : spare_stop chains set ≡ None → Passed (2 ^ chains)
   unfolding spare_stop spare
   all_taken e = go (least_below free (2 ^ chains)) (least_is free (2 ^ chains)) e
     where
-      go : (o : Option ℕ) → LeastIs free (2 ^ chains) o → ◌≡◌ {A = Option TestSlice} (elim o [ some v ↦ some (full chains v) | none ↦ none ]) none → Passed (2 ^ chains)
-      go none all same = λ v h. not-false (taken chains set v) (all v h)
-      go (some v) l same = absurd (let z : ◌≡◌ {A = ℕ} 0 1 = cc in omega arith)
+      go : (o : Option ℕ) → LeastIs free (2 ^ chains) o → ◌≡◌ {A = Option TestSlice} (elim o [ Some v ↦ Some (full chains v) | None ↦ None ]) None → Passed (2 ^ chains)
+      go None all same = λ v h. not-false (taken chains set v) (all v h)
+      go (Some v) l same = absurd (let z : ◌≡◌ {A = ℕ} 0 1 = cc in omega arith)
 
 -- no more patterns than slices: their number fits a word
 pub patterns_fit : (chains : ℕ) (ps bs : List ℕ) → 2 ^ chains ≤ length (paired ps bs) → length ps < 2 ^ 64 → chains < 64

@@ -1,3 +1,2 @@
 -- The spare pattern of a set.
 pub mod Spare
-pub mod Answer

@@ -3,8 +3,7 @@
 --     taken chains set v       some test slice equals the pattern v
 --     spare chains set         the smallest of the 2 ^ chains patterns that is not taken, or none
 --     spare_stop chains set     the same as a stop slice
-use Rattle.std.specs.Prelude.{Bool, not, ◌&&◌, List, ℕ, ◌^◌, eqb}
-use Rattle.std.proofs.Math.Option.{Option, none, some}
+use Rattle.std.specs.Prelude.{Bool, not, ◌&&◌, List, ℕ, ◌^◌, eqb, None, Option, Some}
 use Rattle.words_bounded.specs.Bounded.{any, least_below}
 use Rattle.machine_slices.specs.declared.TestSlice.{TestSlice}
 use Rattle.machine_slices.specs.Slices.{full}
@@ -19,4 +18,4 @@ unfoldable pub spare : ℕ → List TestSlice → Option ℕ
 spare chains set = least_below (λ v. not (taken chains set v)) (2 ^ chains)
 
 unfoldable pub spare_stop : ℕ → List TestSlice → Option TestSlice
-spare_stop chains set = elim (spare chains set) [ some v ↦ some (full chains v) | none ↦ none ]
+spare_stop chains set = elim (spare chains set) [ Some v ↦ Some (full chains v) | None ↦ None ]

@@ -4,10 +4,10 @@
 --     ChoiceIs, choice_is        the choice is so, or every position is set
 --     zero_bit, zero_leftmost    where the greatest count is 0, the choice is the leftmost unset position with the bit 0, which becomes 1
 -- Assumes nothing.
+use Rattle.std.specs.Prelude.{None, Option, Some}
 use mathlib.Core.Path.{◌≡◌, refl}
 use mathlib.Core.Logic.{⊎_elim}
 use mathlib.Core.Bool.{Bool, true, false}
-use mathlib.Core.Option.{Option, none, some}
 use Prim.Native.Nat.{ℕ, zero, suc, ◌-◌, ◌*◌, ◌/◌, ◌%◌, ◌≤◌, ◌<◌}
 use native.Mathlib.Nat.{not-suc-le-zero, le_of_suc-le-suc, eq-or-lt_of_le}
 use native.Mathlib.Omega.{arith}
@@ -25,8 +25,8 @@ pub record Chosen (stop : TestSlice) (counts : ℕ → ℕ) (n q : ℕ) : Type 0
   pub first : (r : ℕ) → r < q → is_set (r / 2) stop ≡ false → counts r < counts q
 
 abbrev pub ChoiceIs : TestSlice → (ℕ → ℕ) → ℕ → Option ℕ → Type 0
-ChoiceIs stop counts n none = (r : ℕ) → r < n → is_set (r / 2) stop ≡ true
-ChoiceIs stop counts n (some q) = Chosen stop counts n q
+ChoiceIs stop counts n None = (r : ℕ) → r < n → is_set (r / 2) stop ≡ true
+ChoiceIs stop counts n (Some q) = Chosen stop counts n q
 
 -- the two bits of a position are apart
 pub bits_apart : (p b : ℕ) (x : TestSlice) → b < 2 → has p (1 - b) x ≡ true → has p b x ≡ false
@@ -42,8 +42,8 @@ module _ (stop : TestSlice) (counts : ℕ → ℕ) where
 
   -- the position of n is set
   skip : (n : ℕ) (o : Option ℕ) → is_set (n / 2) stop ≡ true → ChoiceIs stop counts n o → ChoiceIs stop counts (suc n) o
-  skip n none t all = up_to (λ r. is_set (r / 2) stop ≡ true) n t all
-  skip n (some q) t c = record {
+  skip n None t all = up_to (λ r. is_set (r / 2) stop ≡ true) n t all
+  skip n (Some q) t c = record {
     below = omega (arith, c.below);
     unset = c.unset;
     greatest = up_to (λ r. is_set (r / 2) stop ≡ false → counts r ≤ counts q) n (λ f. absurd (clash (is_set (n / 2) stop) t f)) c.greatest;
@@ -53,15 +53,15 @@ module _ (stop : TestSlice) (counts : ℕ → ℕ) where
   -- n against the best below it
   weigh : (n : ℕ) (o : Option ℕ) → is_set (n / 2) stop ≡ false → ChoiceIs stop counts n o → ChoiceIs stop counts (suc n) (better counts n o)
   unfolding better
-  weigh n none f all = record {
+  weigh n None f all = record {
     below = omega arith;
     unset = f;
     greatest = up_to (λ r. is_set (r / 2) stop ≡ false → counts r ≤ counts n) n (λ g. omega arith) (λ r h g. absurd (clash (is_set (r / 2) stop) (all r h) g));
     first = λ r h g. absurd (clash (is_set (r / 2) stop) (all r h) g);
   }
-  weigh n (some q) f c = go (ltb (counts q) (counts n)) refl
+  weigh n (Some q) f c = go (ltb (counts q) (counts n)) refl
     where
-      go : (b : Bool) → ltb (counts q) (counts n) ≡ b → ChoiceIs stop counts (suc n) (elim b [ true ↦ some n | false ↦ some q ])
+      go : (b : Bool) → ltb (counts q) (counts n) ≡ b → ChoiceIs stop counts (suc n) (elim b [ true ↦ Some n | false ↦ Some q ])
       go true e =
           let l = ltb-true (counts q) (counts n) e in
           record {

@@ -6,9 +6,9 @@
 --     stage_halved              so it is after each step
 --     left_few                  where all positions are set and slices are in, there are at least as many slices as patterns
 -- Assumes nothing.
+use Rattle.std.specs.Prelude.{None, Option, Some}
 use mathlib.Core.Path.{◌≡◌, ap, ◌∙◌}
 use mathlib.Core.Bool.{Bool, true, false}
-use mathlib.Core.Option.{Option, none, some}
 use mathlib.Core.List.{List, [], ◌∷◌}
 use Prim.Native.Nat.{ℕ, zero, suc, ◌+◌, ◌-◌, ◌*◌, ◌/◌, ◌%◌, ◌^◌, ◌≤◌}
 use native.Mathlib.Nat.{mul_assoc, mul_left_comm, mul-le-mul_left}
@@ -75,8 +75,8 @@ module _ (chains : ℕ) (set : List TestSlice) where
     where
       go : (b : Bool) (o : Option ℕ) → ChoiceIs g.stop (λ q. count q g.left) (2 * chains) o → Halved set (moved g b o)
       go true o c = h
-      go false none c = h
-      go false (some q) c = set_halved g q c h
+      go false None c = h
+      go false (Some q) c = set_halved g q c h
 
   pub stage_halved : (k : ℕ) → Halved set (stage chains set k)
   unfolding stage

@@ -8,10 +8,10 @@
 --     RuleMeaning chains set answer     of the rule for a stop slice: the steps decide or else the spare pattern, a stop slice is good, and there is none exactly where none is good
 --     rule_means     so the rule is
 -- Assumes nothing.
+use Rattle.std.specs.Prelude.{None, Option, Some}
 use mathlib.Core.Path.{◌≡◌, refl, sym, ◌∙◌}
 use mathlib.Core.Logic.{◌↔◌, inl, inr, ⊎_elim}
 use mathlib.Core.Bool.{Bool, true, false}
-use mathlib.Core.Option.{Option, none, some}
 use mathlib.Core.List.{List, [], ◌∷◌}
 use Prim.Native.Nat.{ℕ, ◌<◌}
 use native.Mathlib.Omega.{arith}
@@ -43,11 +43,11 @@ pub record Lawful (chains : ℕ) (set : List TestSlice) : Type 0 where
   pub formed : any (bad_slice chains) set ≡ false
 
 pub record RuleMeaning (chains : ℕ) (set : List TestSlice) (answer : Option TestSlice) : Type 0 where
-  pub decided : (stop : TestSlice) → steps chains set ≡ some stop → answer ≡ some stop
-  pub spared : steps chains set ≡ none → LeftIn chains set × (answer ≡ spare_stop chains set)
-  pub good : (stop : TestSlice) → answer ≡ some stop → StopMeaning chains set stop
-  pub six : answer ≡ none → SixMeaning chains set
-  pub exactly : (answer ≡ none) ↔ NoneGood chains set
+  pub decided : (stop : TestSlice) → steps chains set ≡ Some stop → answer ≡ Some stop
+  pub spared : steps chains set ≡ None → LeftIn chains set × (answer ≡ spare_stop chains set)
+  pub good : (stop : TestSlice) → answer ≡ Some stop → StopMeaning chains set stop
+  pub six : answer ≡ None → SixMeaning chains set
+  pub exactly : (answer ≡ None) ↔ NoneGood chains set
 
 module _ (chains : ℕ) (set : List TestSlice) where
   module _ (some_slice : 0 < length set) (g : Stage) (s : Sound chains set g) (empty : g.left ≡ []) where
@@ -70,18 +70,18 @@ module _ (chains : ℕ) (set : List TestSlice) where
       none_has = λ i d h all. clash _ (each_in g.stop (get_or set i d) s.specified all) (none_in i d h);
     }
 
-  pub steps_means : (stop : TestSlice) → 0 < length set → steps chains set ≡ some stop → StopMeaning chains set stop
+  pub steps_means : (stop : TestSlice) → 0 < length set → steps chains set ≡ Some stop → StopMeaning chains set stop
   unfolding steps ended
   steps_means stop some_slice e = go g.left refl e
     where
       g : Stage
       g = stage chains set chains
 
-      go : (l : List TestSlice) → g.left ≡ l → elim (is_empty l) [ true ↦ some g.stop | false ↦ none ] ≡ some stop → StopMeaning chains set stop
+      go : (l : List TestSlice) → g.left ≡ l → elim (is_empty l) [ true ↦ Some g.stop | false ↦ None ] ≡ Some stop → StopMeaning chains set stop
       go [] empty same = let q : g.stop ≡ stop = cc in rw (sym q) (means some_slice g (stage_sound chains set chains) empty)
       go (x ∷ xs) full same = absurd (let z : ◌≡◌ {A = ℕ} 0 1 = cc in omega arith)
 
-  pub left_in : steps chains set ≡ none → LeftIn chains set
+  pub left_in : steps chains set ≡ None → LeftIn chains set
   unfolding steps ended
   left_in e = go (is_empty g.left) refl e
     where
@@ -93,46 +93,46 @@ module _ (chains : ℕ) (set : List TestSlice) where
       all f (inr (inl a)) = a
       all f (inr (inr l)) = λ p h. eq-eqb (digit g.stop.specified p) 1 (ones_full chains g.stop.specified (stage_sound chains set chains).below l p h)
 
-      go : (b : Bool) → is_empty g.left ≡ b → ◌≡◌ {A = Option TestSlice} (elim b [ true ↦ some g.stop | false ↦ none ]) none → LeftIn chains set
+      go : (b : Bool) → is_empty g.left ≡ b → ◌≡◌ {A = Option TestSlice} (elim b [ true ↦ Some g.stop | false ↦ None ]) None → LeftIn chains set
       go true t same = absurd (let z : ◌≡◌ {A = ℕ} 0 1 = cc in omega arith)
       go false f same =
           let a = all f (stage_progress chains set chains) in
           record { some_slices_in = f; all_set = a; few = left_few chains set g (stage_halved chains set chains) a f }
 
-  pub decided : (stop : TestSlice) → steps chains set ≡ some stop → stop_for chains set ≡ some stop
+  pub decided : (stop : TestSlice) → steps chains set ≡ Some stop → stop_for chains set ≡ Some stop
   unfolding stop_for
   decided stop e = rw (e, stop_for)
 
-  pub spared : steps chains set ≡ none → stop_for chains set ≡ spare_stop chains set
+  pub spared : steps chains set ≡ None → stop_for chains set ≡ spare_stop chains set
   unfolding stop_for
   spared e = rw (e, stop_for)
 
-  pub stop_means : Lawful chains set → (stop : TestSlice) → stop_for chains set ≡ some stop → StopMeaning chains set stop
+  pub stop_means : Lawful chains set → (stop : TestSlice) → stop_for chains set ≡ Some stop → StopMeaning chains set stop
   stop_means l stop e = go (steps chains set) refl
     where
-      pattern : spare_stop chains set ≡ some stop → StopMeaning chains set stop
+      pattern : spare_stop chains set ≡ Some stop → StopMeaning chains set stop
       pattern s =
           let q = spared-is chains set stop s in
           rw q.pattern (spare_good chains q.number q.below set l.some_chain l.formed q.untaken)
 
       go : (o : Option TestSlice) → steps chains set ≡ o → StopMeaning chains set stop
-      go (some s) d = steps_means stop l.some_slice (d ∙ sym (decided s d) ∙ e)
-      go none d = pattern (sym (spared d) ∙ e)
+      go (Some s) d = steps_means stop l.some_slice (d ∙ sym (decided s d) ∙ e)
+      go None d = pattern (sym (spared d) ∙ e)
 
-  pub six_means : stop_for chains set ≡ none → SixMeaning chains set
+  pub six_means : stop_for chains set ≡ None → SixMeaning chains set
   six_means e = go (steps chains set) refl
     where
       go : (o : Option TestSlice) → steps chains set ≡ o → SixMeaning chains set
-      go (some s) d = absurd (let q = sym (decided s d) ∙ e in let z : ◌≡◌ {A = ℕ} 0 1 = cc in omega arith)
-      go none d = let all = all_taken chains set (sym (spared d) ∙ e) in record { all_taken = all; none_good = taken-none_good chains set all }
+      go (Some s) d = absurd (let q = sym (decided s d) ∙ e in let z : ◌≡◌ {A = ℕ} 0 1 = cc in omega arith)
+      go None d = let all = all_taken chains set (sym (spared d) ∙ e) in record { all_taken = all; none_good = taken-none_good chains set all }
 
   -- some stop slice is good where the rule gives one
-  refused_none : Lawful chains set → NoneGood chains set → stop_for chains set ≡ none
+  refused_none : Lawful chains set → NoneGood chains set → stop_for chains set ≡ None
   refused_none l n = go (stop_for chains set) refl
     where
-      go : (o : Option TestSlice) → stop_for chains set ≡ o → o ≡ none
-      go none e = refl
-      go (some stop) e = absurd (n stop (stop_means l stop e))
+      go : (o : Option TestSlice) → stop_for chains set ≡ o → o ≡ None
+      go None e = refl
+      go (Some stop) e = absurd (n stop (stop_means l stop e))
 
   pub rule_means : Lawful chains set → RuleMeaning chains set (stop_for chains set)
   rule_means l = record {

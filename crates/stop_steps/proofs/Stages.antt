@@ -6,10 +6,10 @@
 --     Progress chains k g    after k steps no slice is in, or no position is unset, or k positions are set
 --     stage_progress         so it is
 -- Assumes nothing.
+use Rattle.std.specs.Prelude.{None, Option, Some}
 use mathlib.Core.Path.{◌≡◌, refl, sym, ap, ap₂, ◌∙◌}
 use mathlib.Core.Logic.{◌⊎◌, inl, inr}
 use mathlib.Core.Bool.{Bool, true, false}
-use mathlib.Core.Option.{Option, none, some}
 use mathlib.Core.List.{List}
 use Prim.Native.Nat.{ℕ, zero, suc, ◌-◌, ◌*◌, ◌/◌, ◌%◌, ◌^◌, ◌≤◌, ◌<◌}
 use native.Mathlib.Omega.{arith}
@@ -33,7 +33,7 @@ pub record Sound (chains : ℕ) (set : List TestSlice) (g : Stage) : Type 0 wher
 
 -- a step, by whether no slice is in and by the choice
 abbrev pub moved : Stage → Bool → Option ℕ → Stage
-moved g b o = elim b [ true ↦ g | false ↦ elim o [ none ↦ g | some q ↦ set_by q g ] ]
+moved g b o = elim b [ true ↦ g | false ↦ elim o [ None ↦ g | Some q ↦ set_by q g ] ]
 
 pub advanced : (chains : ℕ) (g : Stage) (b : Bool) (o : Option ℕ) → is_empty g.left ≡ b → choice g.stop (λ q. count q g.left) (2 * chains) ≡ o → advance chains g ≡ moved g b o
 unfolding advance
@@ -64,8 +64,8 @@ module _ (chains : ℕ) (set : List TestSlice) where
       where
         go : (b : Bool) (o : Option ℕ) → ChoiceIs g.stop counts (2 * chains) o → Sound chains set (moved g b o)
         go true o c = s
-        go false none c = s
-        go false (some q) c = set_sound q c
+        go false None c = s
+        go false (Some q) c = set_sound q c
 
     advance_progress : (k : ℕ) → Progress chains k g → Progress chains (suc k) (advance chains g)
     unfolding advance set_by settle
@@ -79,8 +79,8 @@ module _ (chains : ℕ) (set : List TestSlice) where
         go : (b : Bool) → is_empty g.left ≡ b → (o : Option ℕ) → ChoiceIs g.stop counts (2 * chains) o
             → Progress chains (suc k) (moved g b o)
         go true e o c = inl e
-        go false e none all = inr (inl (λ i h. let d : 2 * i / 2 ≡ i = omega arith in rw d at (all (2 * i) (omega arith))))
-        go false e (some q) c = more q c p e
+        go false e None all = inr (inl (λ i h. let d : 2 * i / 2 ≡ i = omega arith in rw d at (all (2 * i) (omega arith))))
+        go false e (Some q) c = more q c p e
 
   pub stage_sound : (k : ℕ) → Sound chains set (stage chains set k)
   unfolding stage

@@ -16,8 +16,7 @@
 --     ended g               the stop slice when the steps have ended, or none where slices are in
 --     steps chains set      the stop slice that the steps give
 --     stop_for chains set    the stop slice of a set: that of the steps, or else the spare pattern
-use Rattle.std.specs.Prelude.{Bool, true, false, ◌&&◌, List, [], ◌∷◌, ℕ, zero, suc, ◌+◌, ◌-◌, ◌*◌, ◌/◌, ◌%◌, ◌^◌, ltb, eqb, length}
-use Rattle.std.proofs.Math.Option.{Option, none, some}
+use Rattle.std.specs.Prelude.{Bool, true, false, ◌&&◌, List, [], ◌∷◌, ℕ, zero, suc, ◌+◌, ◌-◌, ◌*◌, ◌/◌, ◌%◌, ◌^◌, ltb, eqb, length, None, Option, Some}
 use Rattle.words_gf2.specs.Words.{digit}
 use Rattle.machine_slices.specs.declared.TestSlice.{TestSlice}
 use Rattle.stop_spare.specs.Spare.{spare_stop}
@@ -36,12 +35,12 @@ unfoldable pub count : ℕ → List TestSlice → ℕ
 count q xs = length (filter (has (q / 2) (q % 2)) xs)
 
 unfoldable pub better : (ℕ → ℕ) → ℕ → Option ℕ → Option ℕ
-better counts q none = some q
-better counts q (some r) = elim (ltb (counts r) (counts q)) [ true ↦ some q | false ↦ some r ]
+better counts q None = Some q
+better counts q (Some r) = elim (ltb (counts r) (counts q)) [ true ↦ Some q | false ↦ Some r ]
 
 -- Where the greatest count is 0 this is the leftmost unset position with the bit 0, so that it becomes 1 and all slices go out.
 unfoldable pub choice : TestSlice → (ℕ → ℕ) → ℕ → Option ℕ
-choice stop counts zero = none
+choice stop counts zero = None
 choice stop counts (suc q) = elim (is_set (q / 2) stop) [ true ↦ choice stop counts q | false ↦ better counts q (choice stop counts q) ]
 
 abbrev pub put : ℕ → ℕ → TestSlice → TestSlice
@@ -72,7 +71,7 @@ set_by q g = record { stop = settle q g.stop; left = keep q g.left }
 unfoldable pub advance : ℕ → Stage → Stage
 advance chains g = elim (is_empty g.left) [
   | true ↦ g
-  | false ↦ elim (choice g.stop (λ q. count q g.left) (2 * chains)) [ none ↦ g | some q ↦ set_by q g ]
+  | false ↦ elim (choice g.stop (λ q. count q g.left) (2 * chains)) [ None ↦ g | Some q ↦ set_by q g ]
 ]
 
 unfoldable pub stage : ℕ → List TestSlice → ℕ → Stage
@@ -81,11 +80,11 @@ stage chains set (suc k) = advance chains (stage chains set k)
 
 -- If slices are in at the end, the steps give no stop slice.
 unfoldable pub ended : Stage → Option TestSlice
-ended g = elim (is_empty g.left) [ true ↦ some g.stop | false ↦ none ]
+ended g = elim (is_empty g.left) [ true ↦ Some g.stop | false ↦ None ]
 
 -- Each step sets a position, so there are at most as many steps as chains.
 unfoldable pub steps : ℕ → List TestSlice → Option TestSlice
 steps chains set = ended (stage chains set chains)
 
 unfoldable pub stop_for : ℕ → List TestSlice → Option TestSlice
-stop_for chains set = elim (steps chains set) [ some stop ↦ some stop | none ↦ spare_stop chains set ]
+stop_for chains set = elim (steps chains set) [ Some stop ↦ Some stop | None ↦ spare_stop chains set ]

@@ -17,12 +17,10 @@ fn read_some<R: Read>(reader: &mut R, part: &mut [u8]) -> usize
     ensures within { IsPrefixLen result part.new }
     ensures bytes { Consumes (R.remaining reader.old) (R.remaining reader.new) (take result part.new) }
 {
-    let mut tries = 0;
-    while tries < MOST_TRIES {
+    for _ in 0..MOST_TRIES {
         if let Ok(got) = reader.read(part) {
             return got;
         }
-        tries += 1;
     }
     0
 }
@@ -33,6 +31,7 @@ pub fn read_all<R: Read>(reader: &mut R, buffer: &mut [u8]) -> usize
     ensures bytes { Consumes (R.remaining reader.old) (R.remaining reader.new) (take result buffer.new) }
 {
     let mut done = 0;
+    // Not a `for`: it moves by as many bytes as a read gave.
     while done < buffer.len() {
         let more = read_some(reader, &mut buffer[done..]);
         if more == 0 {
@@ -48,12 +47,10 @@ fn write_some<W: Write>(writer: &mut W, part: &[u8]) -> usize
     ensures within { IsPrefixLen result part.now }
     ensures bytes { Appends (W.contents writer.old) (W.contents writer.new) (take result part.now) }
 {
-    let mut attempts = 0;
-    while attempts < MOST_TRIES {
+    for _ in 0..MOST_TRIES {
         if let Ok(got) = writer.write(part) {
             return got;
         }
-        attempts += 1;
     }
     0
 }
@@ -64,6 +61,7 @@ pub fn write_all<W: Write>(writer: &mut W, bytes: &[u8]) -> usize
     ensures bytes { Appends (W.contents writer.old) (W.contents writer.new) (take result bytes.now) }
 {
     let mut sent = 0;
+    // Not a `for`: it moves by as many bytes as a write took.
     while sent < bytes.len() {
         let more = write_some(writer, &bytes[sent..]);
         if more == 0 {

@@ -5,6 +5,7 @@
 --     accepted_short   so an accepted one has fewer
 --     enough-reads     the first `enough` bytes are read as the whole is
 -- Assumes nothing.
+use Rattle.std.specs.Prelude.{Err, None, Option, Some}
 use mathlib.Core.Bool.{Bool, true, false}
 use mathlib.Core.Logic.{⊎_elim}
 use mathlib.Core.Path.{◌≡◌, refl, sym, ap, ◌∙◌}
@@ -21,8 +22,6 @@ use Rattle.text_keys.specs.declared.Key.{Key}
 use Rattle.text_keys.specs.declared.LineCause.TheVariants.{Form}
 use Rattle.text_keys.proofs.Table.{every, every_key}
 use Rattle.text_key_of.specs.Begins.{key_of}
-use Rattle.text_key_of.specs.declared.Named.{Named}
-use Rattle.text_key_of.specs.declared.Named.TheVariants.{Known, Unknown}
 use Rattle.text_lines.specs.Form.{formed}
 use Rattle.text_lines.specs.declared.Entry.{Entry}
 use Rattle.text_lines.specs.declared.Line.{Line}
@@ -37,7 +36,6 @@ use Rattle.text_ranges.specs.Ranges.{saying}
 use Rattle.text_ranges.proofs.Ranging.{saying_refused}
 use Rattle.text_ranges.proofs.Accepting.{refused_said, line_accepted}
 use Rattle.text_ending.specs.Ending.{refused_at}
-use Rattle.text_ending.specs.declared.Scanned.TheVariants.{Refused}
 use Rattle.text_reading.specs.Reading.{Reading, stops, told, onward, reading, reading_of}
 use Rattle.text_bounds.specs.Bounds.{total, longest_of, longest_line, enough}
 use Rattle.text_bounds.proofs.Ahead.{Sound, sound_start, sound_step, ahead, ahead_step, ahead_start}
@@ -97,11 +95,11 @@ module _ (kind : Kind) (p : Place) (l : List ℕ) (h : longest_line ≤ length l
   long_refused : saying kind p l ≡ lines.Refused Form
   long_refused = saying_refused kind p l Form (go (key_of rows l) refl)
     where
-      go : (n : Named) → key_of rows l ≡ n → formed p.chains l ≡ lines.Refused Form
-      go Unknown e = formed_unknown p.chains l e
-      go (Known k) e = formed_known p.chains k l e ∙ keyed_long p.chains k l (let f = longest-most k in omega arith)
+      go : (n : Option Key) → key_of rows l ≡ n → formed p.chains l ≡ lines.Refused Form
+      go None e = formed_unknown p.chains l e
+      go (Some k) e = formed_known p.chains k l e ∙ keyed_long p.chains k l (let f = longest-most k in omega arith)
 
-  long_onward : (n : ℕ) (next : Entry → Reading) → onward (saying kind p l) next n ≡ stops (Refused (refused_at Form n))
+  long_onward : (n : ℕ) (next : Entry → Reading) → onward (saying kind p l) next n ≡ stops (Err (refused_at Form n))
   long_onward n next = rw long_refused
 
 accepted_short : (kind : Kind) (p : Place) (l : List ℕ) (e : Entry) → saying kind p l ≡ lines.Said e → length l < longest_line
@@ -114,7 +112,7 @@ module _ (kind : Kind) where
   abbrev room : Place → ℕ
   room p = ahead (λ k. longest_line) kind p + (longest_line + 1)
 
-  unended : (p : Place) (n : ℕ) (o : List ℕ) → 0 < length o → reading kind p n (rest o) ≡ stops (Refused (refused_at Form n))
+  unended : (p : Place) (n : ℕ) (o : List ℕ) → 0 < length o → reading kind p n (rest o) ≡ stops (Err (refused_at Form n))
   unfolding reading
   unended p n [] h = absurd (omega arith)
   unended p n (c ∷ o) h = refl

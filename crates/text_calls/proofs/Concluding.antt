@@ -5,6 +5,8 @@
 --     call-whole        what a call leaves whose text is read through
 --     call_refused      and one whose text is refused
 -- Assumes nothing.
+use Rattle.text_replies.specs.Calls.{refused_with, Answer}
+use Rattle.std.specs.Prelude.{Err, Ok, Result}
 use mathlib.Core.Path.{◌≡◌, sym, ap, ◌∙◌}
 use mathlib.Core.List.{List}
 use Prim.Native.Nat.{ℕ}
@@ -19,13 +21,9 @@ use Rattle.text_entries.specs.Flat.{flat, entries_in}
 use Rattle.text_entries.specs.declared.Part.TheVariants.{First}
 use Rattle.text_entries.proofs.Kept.{kept_back}
 use Rattle.text_order.specs.declared.Kind.{Kind}
-use Rattle.text_ending.specs.declared.Scanned.{Scanned}
-use Rattle.text_ending.specs.declared.Scanned.TheVariants.{Whole, Refused}
 use Rattle.text_reading.specs.Reading.{reading_of}
 use Rattle.text_bounds.proofs.Counting.{lines_few, numbers_few}
 use Rattle.text_bounds.proofs.Values.{lines_value}
-use Rattle.text_replies.specs.declared.Answer.{Answer}
-use Rattle.text_replies.specs.declared.Answer.TheVariants as answers
 use Rattle.text_replies.proofs.Answering.{Leaves, refused_leaves}
 use Rattle.text_calls.specs.Texts.{reply_of, concluded, reply_to, call_of}
 
@@ -47,11 +45,11 @@ module _ (kind : Kind) (s : List ℕ) where
     seeds = numbers_few kind s key.Seed First;
   }
 
-  module _ (out : List ℕ) (r : Scanned) (e : r ≡ (reading_of kind s).end) where
-    pub call-whole : r ≡ Whole → (a : Answer) (after : List ℕ) → Leaves (reply_of kind (reading_of kind s).entries) out a after → (a ≡ (call_of kind s out).answer) × (after ≡ (call_of kind s out).buffer)
+  module _ (out : List ℕ) (r : Result (Unit {0}) Refusal) (e : r ≡ (reading_of kind s).end) where
+    pub call-whole : r ≡ Ok tt → (a : Answer) (after : List ℕ) → Leaves (reply_of kind (reading_of kind s).entries) out a after → (a ≡ (call_of kind s out).answer) × (after ≡ (call_of kind s out).buffer)
     unfolding call_of reply_to concluded
     call-whole w a after l = rw (sym e ∙ w) l
 
-    pub call_refused : (c : Refusal) → r ≡ Refused c → (answers.Refused c 0 ≡ (call_of kind s out).answer) × (out ≡ (call_of kind s out).buffer)
+    pub call_refused : (c : Refusal) → r ≡ Err c → (refused_with c 0 ≡ (call_of kind s out).answer) × (out ≡ (call_of kind s out).buffer)
     unfolding call_of reply_to concluded
     call_refused c f = rw (sym e ∙ f) (refused_leaves c out)

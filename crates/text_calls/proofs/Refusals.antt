@@ -3,6 +3,8 @@
 --     line_on_sheet         the number of a refused line
 --     reply_on_sheet        the number of every reply
 -- Assumes nothing.
+use Rattle.std.specs.Prelude.{Err, Ok, Result}
+use Rattle.refusal_causes.specs.declared.Refusal.{Refusal}
 use mathlib.Core.List.{List}
 use Prim.Native.Nat.{ℕ}
 use Rattle.refusal_causes.specs.Sheet.{OnSheet}
@@ -13,8 +15,6 @@ use Rattle.text_order.specs.declared.Kind.TheVariants.{Sheet, SeedList}
 use Rattle.text_reading.specs.Reading.{reading_of}
 use Rattle.text_keys.specs.declared.LineCause.{LineCause}
 use Rattle.text_ending.specs.Ending.{cause_of, refused_at}
-use Rattle.text_ending.specs.declared.Scanned.{Scanned}
-use Rattle.text_ending.specs.declared.Scanned.TheVariants as scanned
 use Rattle.text_reading.proofs.Refusals.{EndsBy, reading_refused}
 use Rattle.text_replies.specs.Replies.{Reply, RefusedBy}
 use Rattle.text_encode_said.specs.Encoded.{encoded}
@@ -26,10 +26,10 @@ use Rattle.text_expand.specs.List.{seed_list_reply}
 use Rattle.text_calls.specs.Texts.{reply_of, concluded, reply_to}
 
 module _ (P : ℕ → Type 0) where
-  concluded_refused : (end : Scanned) (r : Reply) → EndsBy P end → RefusedBy P r → RefusedBy P (concluded end r)
+  concluded_refused : (end : Result (Unit {0}) Refusal) (r : Reply) → EndsBy P end → RefusedBy P r → RefusedBy P (concluded end r)
   unfolding concluded
-  concluded_refused scanned.Whole r e h = h
-  concluded_refused (scanned.Refused c) r e h = e
+  concluded_refused (Ok tt) r e h = h
+  concluded_refused (Err c) r e h = e
 
 line_on_sheet : (c : LineCause) (n : ℕ) → OnSheet (refused_at c n).number
 line_on_sheet c n = on_sheet (cause_of c 0)

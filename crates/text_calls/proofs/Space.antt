@@ -3,6 +3,8 @@
 --     reply-within     no text of it is longer
 --     call_prints      so it leaves its text in the buffer
 -- Assumes nothing.
+use Rattle.std.specs.Prelude.{Err, Ok, Result}
+use Rattle.refusal_causes.specs.declared.Refusal.{Refusal}
 use mathlib.Core.Path.{◌≡◌}
 use mathlib.Core.List.{List}
 use Prim.Native.Nat.{ℕ, ◌≤◌}
@@ -13,11 +15,8 @@ use Rattle.text_order.specs.declared.Kind.TheVariants.{Sheet, SeedList}
 use Rattle.text_reading.specs.Reading.{reading_of}
 use Rattle.text_bounds.specs.Bounds.{most_text}
 use Rattle.text_bounds.proofs.Values.{text_value}
-use Rattle.text_ending.specs.declared.Scanned.{Scanned}
-use Rattle.text_ending.specs.declared.Scanned.TheVariants as scanned
 use Rattle.text_replies.specs.Replies.{Reply, lent}
-use Rattle.text_replies.specs.Calls.{shown}
-use Rattle.text_replies.specs.declared.Answer.{Answer}
+use Rattle.text_replies.specs.Calls.{shown, Answer}
 use Rattle.text_replies.proofs.Space.{Within, Prints, prints}
 use Rattle.text_encode_said.specs.Encoded.{encoded}
 use Rattle.text_encode_said.proofs.Space.{list_within, encode_long}
@@ -29,10 +28,10 @@ use Rattle.text_expand.specs.List.{seed_list_reply}
 use Rattle.text_calls.specs.Texts.{concluded, reply_to, printed_for, call_of}
 use Rattle.text_calls.proofs.Concluding.{few_numbers}
 
-concluded-within : (most : ℕ) (end : Scanned) (r : Reply) → Within most r → Within most (concluded end r)
+concluded-within : (most : ℕ) (end : Result (Unit {0}) Refusal) (r : Reply) → Within most r → Within most (concluded end r)
 unfolding concluded
-concluded-within most scanned.Whole r w = w
-concluded-within most (scanned.Refused c) r w = tt
+concluded-within most (Ok tt) r w = w
+concluded-within most (Err c) r w = tt
 
 reply-within : (kind : Kind) (s : List ℕ) → Within most_text (reply_to kind s)
 unfolding reply_to sheet_reply reply_under encoded seed_list_reply expanded

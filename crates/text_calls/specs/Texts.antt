@@ -6,12 +6,11 @@
 --     call_of kind s out      the call, which writes into a lent buffer of bytes
 --     encode_reply, encode_text, encode_call     those of a sheet
 --     expand_reply, expand_text, expand_call     those of a seed list
-use Rattle.std.specs.Prelude.{List, ℕ}
+use Rattle.refusal_causes.specs.declared.Refusal.{Refusal}
+use Rattle.std.specs.Prelude.{List, ℕ, Err, Ok, Result}
 use Rattle.text_lines.specs.declared.Entry.{Entry}
 use Rattle.text_order.specs.declared.Kind.{Kind}
 use Rattle.text_order.specs.declared.Kind.TheVariants.{Sheet, SeedList}
-use Rattle.text_ending.specs.declared.Scanned.{Scanned}
-use Rattle.text_ending.specs.declared.Scanned.TheVariants as scanned
 use Rattle.text_reading.specs.Reading.{reading_of}
 use Rattle.text_replies.specs.Replies.{Reply, refused, printed}
 use Rattle.text_replies.specs.Calls.{TextOutcome, called}
@@ -23,9 +22,9 @@ reply_of Sheet es = sheet_reply es
 reply_of SeedList es = seed_list_reply es
 
 -- Checks over the whole follow those of the lines.
-unfoldable pub concluded : Scanned → Reply → Reply
-concluded scanned.Whole reply = reply
-concluded (scanned.Refused r) reply = refused r
+unfoldable pub concluded : Result (Unit {0}) Refusal → Reply → Reply
+concluded (Ok tt) reply = reply
+concluded (Err r) reply = refused r
 
 unfoldable pub reply_to : Kind → List ℕ → Reply
 reply_to kind s = concluded (reading_of kind s).end (reply_of kind (reading_of kind s).entries)

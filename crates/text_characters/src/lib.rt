@@ -6,13 +6,6 @@ ghost use Rattle.text_characters.specs.Characters.{is_character, specified_at, b
 
 use machine_slices::TestSlice;
 
-// The slice that characters say.
-#[derive(Clone, Copy)]
-pub enum SliceSaid {
-    Slice(TestSlice),
-    Nothing,
-}
-
 // Whether a byte is one of the three characters of a slice.
 fn is_character(b: u8) -> bool
     ensures { result ≡ is_character b }
@@ -42,21 +35,18 @@ fn bit_at(b: u8) -> u64
 
 // The slice that the characters say. The first has the least weight, so they are read from the last.
 // An inner function: its callers show that there are at most 64 characters.
-pub fn slice_of(value: &[u8]) -> SliceSaid
+pub fn slice_of(value: &[u8]) -> Option<TestSlice>
     requires { length value.now ≤ 64 }
     ensures { result ≡ slice_of value.now }
 {
     let mut specified: u64 = 0;
     let mut bits: u64 = 0;
-    let mut i = value.len();
-    while 0 < i {
-        i -= 1;
-        let b = value[i];
+    for &b in value.iter().rev() {
         if !is_character(b) {
-            return SliceSaid::Nothing;
+            return None;
         }
         specified = specified * 2 + specified_at(b);
         bits = bits * 2 + bit_at(b);
     }
-    SliceSaid::Slice(TestSlice { specified, bits })
+    Some(TestSlice { specified, bits })
 }

@@ -10,7 +10,7 @@ ghost use Rattle.text_replies.specs.Calls.{called};
 
 use text_entries::Part;
 use text_keys::Key;
-use text_replies::Answer;
+use text_replies::{TextRefused, TextWritten};
 
 // Writes the lines that the list of a sheet repeats.
 fn write_head(entries: &[u64], head: &mut [u8]) -> usize
@@ -34,7 +34,7 @@ fn write_head(entries: &[u64], head: &mut [u8]) -> usize
 }
 
 // Encodes what the entries of a sheet say, under the lines that its list repeats.
-fn encode_under(head: &[u8], entries: &[u64], out: &mut [u8]) -> Answer
+fn encode_under(head: &[u8], entries: &[u64], out: &mut [u8]) -> Result<TextWritten, TextRefused>
     requires { (length head.now ≤ 65536) × Few (entries_in entries.now) }
     ensures answer { result ≡ (called (reply_under head.now (entries_in entries.now)) out.old).answer }
     ensures buffer { out.new ≡ (called (reply_under head.now (entries_in entries.now)) out.old).buffer }
@@ -59,7 +59,7 @@ fn encode_under(head: &[u8], entries: &[u64], out: &mut [u8]) -> Answer
 
 // Encodes what the entries of a sheet say.
 // An inner function: its callers show that there are no more lines than a text can have accepted.
-pub fn encode_entries(entries: &[u64], out: &mut [u8]) -> Answer
+pub fn encode_entries(entries: &[u64], out: &mut [u8]) -> Result<TextWritten, TextRefused>
     requires { Few (entries_in entries.now) }
     ensures answer { result ≡ (called (sheet_reply (entries_in entries.now)) out.old).answer }
     ensures buffer { out.new ≡ (called (sheet_reply (entries_in entries.now)) out.old).buffer }

@@ -7,7 +7,8 @@ ghost use Rattle.text_replies.specs.Calls.{called};
 
 use encoder_meaning::Encoded;
 use machine_settings::Settings;
-use text_replies::Answer;
+use refusal_causes::Cause;
+use text_replies::{TextRefused, TextWritten};
 
 // Writes the list of an encoding. The head is the sheet's lines before depth.
 fn reply_list(
@@ -15,28 +16,24 @@ fn reply_list(
     chains: usize,
     slices: usize,
     seeds: &[u64],
-    encoded: Encoded,
+    encoded: Result<Encoded, Cause>,
     out: &mut [u8],
-) -> Answer
+) -> Result<TextWritten, TextRefused>
     requires { (length head.now ≤ 65536) × (chains ≤ 64) × (length seeds.now ≤ 2048) }
     ensures answer { result ≡ (called (list_reply head.now chains slices seeds.now encoded) out.old).answer }
     ensures buffer { out.new ≡ (called (list_reply head.now chains slices seeds.now encoded) out.old).buffer }
 {
-    match encoded {
-        Encoded::Seeds(stop, n) => {
-            let count = words_bounded::lesser(n, seeds.len());
-            let written = text_write_list::write_list(
-                out,
-                head,
-                chains,
-                stop,
-                slices,
-                &seeds[..count],
-            );
-            text_replies::answered(n, written)
-        }
-        Encoded::Refused(cause) => Answer::Refused(refusal_causes::refusal_of(cause), 0),
-    }
+    let list = encoded?;
+    let count = list.seeds.min(seeds.len());
+    let written = text_write_list::write_list(
+        out,
+        head,
+        chains,
+        list.stop,
+        slices,
+        &seeds[..count],
+    );
+    text_replies::answered(list.seeds, written)
 }
 
 // Encodes what a sheet says, with its lines before depth.
@@ -49,7 +46,7 @@ pub fn encode_said(
     specified: &[u64],
     bits: &[u64],
     out: &mut [u8],
-) -> Answer
+) -> Result<TextWritten, TextRefused>
     requires { (length head.now ≤ 65536) × (length masks.now ≤ 64) }
     ensures answer { result ≡ (called (encoded head.now settings masks.now depth specified.now bits.now) out.old).answer }
     ensures buffer { out.new ≡ (called (encoded head.now settings masks.now depth specified.now bits.now) out.old).buffer }

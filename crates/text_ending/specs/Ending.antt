@@ -4,7 +4,7 @@
 --     refused_at c n          the number with the line
 --     refusal_of_line said n   the refusal of a refused line
 --     end_of kind p n         the end of a text that ends where the line n would stand
-use Rattle.std.specs.Prelude.{true, false, ℕ}
+use Rattle.std.specs.Prelude.{true, false, ℕ, Err, Ok, Result}
 use Rattle.refusal_causes.specs.declared.Cause.{Cause}
 use Rattle.refusal_causes.specs.declared.Cause.TheVariants as cause
 use Rattle.refusal_causes.specs.declared.Refusal.{Refusal}
@@ -16,8 +16,6 @@ use Rattle.text_lines.specs.declared.Line.TheVariants as lines
 use Rattle.text_order.specs.Order.{may_end}
 use Rattle.text_order.specs.declared.Kind.{Kind}
 use Rattle.text_place.specs.declared.Place.{Place}
-use Rattle.text_ending.specs.declared.Scanned.{Scanned}
-use Rattle.text_ending.specs.declared.Scanned.TheVariants.{Whole, Refused}
 
 abbrev pub cause_of : LineCause → ℕ → Cause
 cause_of line_cause.Form n = cause.Line n
@@ -39,5 +37,5 @@ refusal_of_line (lines.Said e) n = refused_at line_cause.Form n
 refusal_of_line (lines.Refused c) n = refused_at c n
 
 -- Text that ends early is refused at the line after the last.
-unfoldable pub end_of : Kind → Place → ℕ → Scanned
-end_of kind p n = elim (may_end kind p) [ true ↦ Whole | false ↦ Refused (refused_at line_cause.Form n) ]
+unfoldable pub end_of : Kind → Place → ℕ → Result (Unit {0}) Refusal
+end_of kind p n = elim (may_end kind p) [ true ↦ Ok tt | false ↦ Err (refused_at line_cause.Form n) ]

@@ -10,13 +10,6 @@ use text_lines::Line;
 use text_order::Kind;
 use text_place::Place;
 
-// How a reading ends: all lines are read, or the refusal.
-#[derive(Clone, Copy)]
-pub enum Scanned {
-    Whole,
-    Refused(Refusal),
-}
-
 // The number of a line's cause.
 fn number_of(cause: LineCause) -> usize
     ensures { result ≡ line_number cause }
@@ -51,12 +44,12 @@ pub fn refusal_of_line(line: Line, n: usize) -> Refusal
 }
 
 // The end of a text that ends where the line n would stand.
-pub fn end_of(kind: Kind, place: Place, n: usize) -> Scanned
+pub fn end_of(kind: Kind, place: Place, n: usize) -> Result<(), Refusal>
     ensures { result ≡ end_of kind place n }
 {
     if text_order::may_end(kind, place) {
-        Scanned::Whole
+        Ok(())
     } else {
-        Scanned::Refused(refused_at(LineCause::Form, n))
+        Err(refused_at(LineCause::Form, n))
     }
 }

@@ -61,6 +61,7 @@ pub fn numbers(entries: &[u64], key: Key, part: Part, list: &mut [u64]) -> usize
 {
     let mut count = 0;
     let mut i = 0;
+    // Not a `for`: an entry has three numbers, and what is left behind the last one is none.
     while 3 <= entries.len() - i {
         if entries[i] == text_keys::rank(key) as u64 {
             store(list, count, entries[i + offset(part)]);

@@ -10,11 +10,11 @@ ghost use Rattle.text_replies.specs.Calls.{called};
 use machine_slices::TestSlice;
 use text_entries::Part;
 use text_keys::Key;
-use text_replies::Answer;
+use text_replies::{TextRefused, TextWritten};
 
 // Expands what the entries of a seed list say.
 // An inner function: its callers show that there are no more lines than a text can have accepted.
-pub fn expand_entries(entries: &[u64], out: &mut [u8]) -> Answer
+pub fn expand_entries(entries: &[u64], out: &mut [u8]) -> Result<TextWritten, TextRefused>
     requires { Few (entries_in entries.now) }
     ensures answer { result ≡ (called (seed_list_reply (entries_in entries.now)) out.old).answer }
     ensures buffer { out.new ≡ (called (seed_list_reply (entries_in entries.now)) out.old).buffer }

@@ -2,6 +2,8 @@
 --     walk_long, expand_long     the buffer
 --     slices_within              the text
 -- Assumes nothing.
+use Rattle.std.specs.Prelude.{Err, Ok, Result}
+use Rattle.refusal_causes.specs.declared.Cause.{Cause}
 use mathlib.Core.Bool.{Bool, true, false}
 use mathlib.Core.Path.{◌≡◌, refl}
 use mathlib.Core.List.{List}
@@ -10,8 +12,6 @@ use native.Mathlib.Omega.{arith}
 use lib.Dec.{eqb}
 use lib.ListN.{length, take, length-take}
 use Rattle.refusal_causes.specs.declared.Cause.TheVariants.{Total}
-use Rattle.refusal_causes.specs.declared.Written.{Written}
-use Rattle.refusal_causes.specs.declared.Written.TheVariants as written
 use Rattle.refusal_causes.specs.Outcome.{Outcome, refuse, fill}
 use Rattle.refusal_causes.proofs.Outcome.{fill_long}
 use Rattle.machine_settings.specs.declared.Settings.{Settings}
@@ -19,8 +19,6 @@ use Rattle.machine_settings.specs.Machine.{machine}
 use Rattle.machine_slices.specs.declared.TestSlice.{TestSlice}
 use Rattle.refusal_order.specs.Order.{judged}
 use Rattle.refusal_checks.specs.Calls.{list_faults}
-use Rattle.refusal_order.specs.declared.Verdict.{Verdict}
-use Rattle.refusal_order.specs.declared.Verdict.TheVariants as verdict
 use Rattle.theory_covering.specs.Rules.{rules}
 use Rattle.expander_meaning.specs.Expanding.{Walk, ran, failed, totalled, expanding, expand_list}
 use Rattle.text_write_slices.proofs.Slices.{slices_bound}
@@ -42,11 +40,11 @@ pub expand_long : (g : Settings) (masks : List ℕ) (stop : TestSlice) (n : ℕ)
 unfolding expand_list expanding refuse
 expand_long g masks stop n seeds out = go (judged (list_faults g masks stop n (length seeds)))
   where
-    go : (v : Verdict) → length (elim v as (λ _. Outcome) [ verdict.Refused c ↦ refuse c out | verdict.WellFormed ↦ expanding (machine g masks) (rules g stop) n seeds out ]).buffer ≡ length out
-    go (verdict.Refused c) = refl
-    go verdict.WellFormed = walk_long n out _
+    go : (v : Result (Unit {0}) Cause) → length (elim v as (λ _. Outcome) [ Err c ↦ refuse c out | (Ok tt) ↦ expanding (machine g masks) (rules g stop) n seeds out ]).buffer ≡ length out
+    go (Err c) = refl
+    go (Ok tt) = walk_long n out _
 
-pub slices_within : (chains : ℕ) (buffer : List ℕ) (a : Written) → chains ≤ 64 → length buffer ≡ 2048 → Within most_text (slices_reply chains buffer a)
+pub slices_within : (chains : ℕ) (buffer : List ℕ) (a : Result ℕ Cause) → chains ≤ 64 → length buffer ≡ 2048 → Within most_text (slices_reply chains buffer a)
 unfolding slices_reply
-slices_within chains buffer (written.Count n) h e = omega (arith, slices_bound chains (take n buffer) h (omega (arith, length-take n buffer)), text_value)
-slices_within chains buffer (written.Refused c) h e = tt
+slices_within chains buffer (Ok n) h e = omega (arith, slices_bound chains (take n buffer) h (omega (arith, length-take n buffer)), text_value)
+slices_within chains buffer (Err c) h e = tt

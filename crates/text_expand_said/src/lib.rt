@@ -7,23 +7,24 @@ ghost use Rattle.text_replies.specs.Calls.{called};
 
 use machine_settings::Settings;
 use machine_slices::TestSlice;
-use refusal_causes::Written;
-use text_replies::Answer;
+use refusal_causes::Cause;
+use text_replies::{TextRefused, TextWritten};
 
 // Writes the slices of an expanding.
-fn reply_slices(chains: usize, slices: &[u64], written: Written, out: &mut [u8]) -> Answer
+fn reply_slices(
+    chains: usize,
+    slices: &[u64],
+    written: Result<usize, Cause>,
+    out: &mut [u8],
+) -> Result<TextWritten, TextRefused>
     requires { (chains ≤ 64) × (length slices.now ≤ 2048) }
     ensures answer { result ≡ (called (slices_reply chains slices.now written) out.old).answer }
     ensures buffer { out.new ≡ (called (slices_reply chains slices.now written) out.old).buffer }
 {
-    match written {
-        Written::Count(n) => {
-            let count = words_bounded::lesser(n, slices.len());
-            let lines = text_write_slices::write_slices(out, chains, &slices[..count]);
-            text_replies::answered(n, lines)
-        }
-        Written::Refused(cause) => Answer::Refused(refusal_causes::refusal_of(cause), 0),
-    }
+    let n = written?;
+    let count = n.min(slices.len());
+    let lines = text_write_slices::write_slices(out, chains, &slices[..count]);
+    text_replies::answered(n, lines)
 }
 
 // Expands what a seed list says.
@@ -35,7 +36,7 @@ pub fn expand_said(
     slices: usize,
     seeds: &[u64],
     out: &mut [u8],
-) -> Answer
+) -> Result<TextWritten, TextRefused>
     requires { length masks.now ≤ 64 }
     ensures answer { result ≡ (called (expanded settings masks.now stop slices seeds.now) out.old).answer }
     ensures buffer { out.new ≡ (called (expanded settings masks.now stop slices seeds.now) out.old).buffer }

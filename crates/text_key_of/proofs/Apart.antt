@@ -2,6 +2,7 @@
 --     differ k l     the bytes k and l differ before either ends
 --     key_back       a line that begins with the name of a key has that key
 -- Assumes nothing.
+use Rattle.std.specs.Prelude.{Some}
 use mathlib.Core.Bool.{Bool, true, false, ◌&&◌, ◌||◌, not}
 use mathlib.Core.Path.{◌≡◌, refl, sym, ap, ◌∙◌}
 use mathlib.Core.List.{List, [], ◌∷◌, ◌++◌}
@@ -14,7 +15,6 @@ use Rattle.text_keys.specs.Keys.{Row, rows, blank, rank, row_at, name}
 use Rattle.text_keys.specs.declared.Key.{Key}
 use Rattle.text_keys.proofs.Table.{placed, every, every_at, and_left, and_right, rows-count}
 use Rattle.text_key_of.specs.Begins.{starts, key_of}
-use Rattle.text_key_of.specs.declared.Named.TheVariants.{Known}
 
 differ : List ℕ → List ℕ → Bool
 differ [] l = false
@@ -45,7 +45,7 @@ all_apart : apart rows ≡ true
 unfolding rows every differ apart
 all_apart = refl
 
-found : (rs : List Row) → apart rs ≡ true → (i : ℕ) (d : Row) → i < length rs → (v : List ℕ) → key_of rs ((get_or rs i d).name ++ v) ≡ Known (get_or rs i d).key
+found : (rs : List Row) → apart rs ≡ true → (i : ℕ) (d : Row) → i < length rs → (v : List ℕ) → key_of rs ((get_or rs i d).name ++ v) ≡ Some (get_or rs i d).key
 unfolding key_of apart
 found [] e i d h v = absurd (not-suc-le-zero h)
 found (r ∷ rs) e zero d h v = rw (starts_self r.name v, key_of)
@@ -54,6 +54,6 @@ found (r ∷ rs) e (suc i) d h v =
     let s = starts_differ r.name (get_or rs i d).name v (every_at (λ s. differ r.name s.name) rs (and_left others (apart rs) e) i d (le_of_suc-le-suc h)) in
     rw (s, key_of) (found rs (and_right others (apart rs) e) i d (le_of_suc-le-suc h) v)
 
-pub key_back : (k : Key) (v : List ℕ) → key_of rows (name k ++ v) ≡ Known k
+pub key_back : (k : Key) (v : List ℕ) → key_of rows (name k ++ v) ≡ Some k
 unfolding name row_at
-key_back k v = found rows all_apart (rank k) blank (rw rows-count (placed k).within) v ∙ ap Known (placed k).key
+key_back k v = found rows all_apart (rank k) blank (rw rows-count (placed k).within) v ∙ ap Some (placed k).key

@@ -2,6 +2,7 @@
 --     name-front, name_inside      a name stands in front of its spaces
 --     key_here, key_go, key_end    the key with which a line begins
 -- Assumes nothing.
+use Rattle.std.specs.Prelude.{None, Some}
 use mathlib.Core.Bool.{Bool, true, false}
 use mathlib.Core.Path.{◌≡◌, refl, ap, ◌∙◌}
 use mathlib.Core.List.{List, ◌++◌}
@@ -16,7 +17,6 @@ use Rattle.text_keys.specs.Bytes.{bytes}
 use Rattle.text_keys.specs.Keys.{Row, rows, count, blank, row_at}
 use Rattle.text_keys.proofs.Table.{every, every_at, rows-count}
 use Rattle.text_key_of.specs.Begins.{starts, key_of}
-use Rattle.text_key_of.specs.declared.Named.TheVariants.{Known, Unknown}
 
 short : Row → Bool
 short r = leb (length r.name) 7
@@ -39,7 +39,7 @@ name_inside i h =
     omega (arith, ap length (name-front i h), length-take m x)
 
 module _ (l : List ℕ) (i : ℕ) where
-  pub key_here : i < count → starts (row_at i).name l ≡ true → key_of (drop i rows) l ≡ Known (row_at i).key
+  pub key_here : i < count → starts (row_at i).name l ≡ true → key_of (drop i rows) l ≡ Some (row_at i).key
   unfolding key_of row_at
   key_here h s = rw (drop-cons rows i blank (rw rows-count h), key_of, s)
 
@@ -47,6 +47,6 @@ module _ (l : List ℕ) (i : ℕ) where
   unfolding key_of row_at
   key_go h s = rw (drop-cons rows i blank (rw rows-count h), add-one, key_of, s)
 
-  pub key_end : count ≤ i → key_of (drop i rows) l ≡ Unknown
+  pub key_end : count ≤ i → key_of (drop i rows) l ≡ None
   unfolding key_of
   key_end h = let g : length rows ≤ i = rw rows-count h in rw (drop_of_length-le rows g)

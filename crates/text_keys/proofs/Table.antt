@@ -7,6 +7,7 @@
 --     every_key, every_of          computed, it is a law of every key
 --     and_left, and_right          both sides of a conjunction
 --     same_is, same_self           where `same` holds, the keys are one; and it holds of a key and itself
+--     tag_rank, same_derived       the derived equality of keys is `same`
 -- Assumes nothing.
 use mathlib.Core.Bool.{Bool, true, false, ◌&&◌}
 use mathlib.Core.Path.{◌≡◌, refl, sym, ap, ◌∙◌}
@@ -15,9 +16,12 @@ use Prim.Native.Nat.{ℕ, zero, suc, ◌+◌, ◌<◌}
 use native.Mathlib.Nat.{le_of_suc-le-suc, not-suc-le-zero}
 use native.Mathlib.Omega.{arith}
 use borrow.Author.Tests.{eqb-true, eq-eqb}
+use denote.Enum.Bare.{sameb}
+use denote.Enum.Declared.{tag_of}
 use lib.Dec.{eqb}
 use lib.ListN.{length, get_or}
 use Rattle.text_keys.specs.Keys.{Row, rows, count, blank, rank, row_at, row_of, same}
+use Rattle.text_keys.specs.contracts.Key.{the_type}
 use Rattle.text_keys.specs.declared.Key.{Key}
 use Rattle.text_keys.specs.declared.Key.TheVariants as key
 
@@ -100,3 +104,20 @@ same_is j k e = sym (placed j).key ∙ ap (λ i. (row_at i).key) (eqb-true (rank
 pub same_self : (k : Key) → same k k ≡ true
 unfolding same
 same_self k = eq-eqb (rank k) (rank k) refl
+
+tag_rank : (k : Key) → tag_of the_type k ≡ rank k
+tag_rank key.Cells = refl
+tag_rank key.Taps = refl
+tag_rank key.Chains = refl
+tag_rank key.Chain = refl
+tag_rank key.Invert = refl
+tag_rank key.Window = refl
+tag_rank key.Depth = refl
+tag_rank key.Slice = refl
+tag_rank key.Stop = refl
+tag_rank key.Slices = refl
+tag_rank key.Seed = refl
+
+pub same_derived : (j k : Key) → sameb the_type j k ≡ same j k
+unfolding same
+same_derived j k = rw (tag_rank j, tag_rank k)

@@ -2,10 +2,10 @@
 #![tactic(auto)]
 
 ghost use Rattle.std.specs.Prelude.{◌≡◌, ◌<◌};
-ghost use Rattle.text_keys.specs.Keys.{count, row_at, row_of, spelling, bounds, rank as rank_of, same as same_of};
+ghost use Rattle.text_keys.specs.Keys.{count, row_at, row_of, spelling, bounds, rank as rank_of};
 
 // The keys of the lines.
-#[derive(Clone, Copy)]
+#[derive(Clone, Copy, PartialEq, Eq)]
 pub enum Key {
     Cells,
     Taps,
@@ -122,13 +122,6 @@ pub fn rank(key: Key) -> usize
         Key::Slices => 9,
         Key::Seed => 10,
     }
-}
-
-// Whether two keys are one.
-pub fn same(a: Key, b: Key) -> bool
-    ensures { result ≡ same_of a b }
-{
-    rank(a) == rank(b)
 }
 
 // How the lines of the key at a place of the table are spelt.

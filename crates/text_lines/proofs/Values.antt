@@ -4,6 +4,7 @@
 --     keyed_long, keyed-value          a line with a key, by its length
 --     formed_known, formed_unknown     a line, by its key
 -- Assumes nothing.
+use Rattle.std.specs.Prelude.{None, Some}
 use mathlib.Core.Path.{◌≡◌}
 use mathlib.Core.List.{List}
 use Prim.Native.Nat.{ℕ, ◌+◌, ◌≤◌, ◌<◌}
@@ -13,7 +14,6 @@ use lib.ListN.{length, drop}
 use Rattle.text_keys.specs.Keys.{rows, name, notation, longest}
 use Rattle.text_key_of.specs.Begins.{key_of}
 use Rattle.text_keys.specs.declared.Key.{Key}
-use Rattle.text_key_of.specs.declared.Named.TheVariants.{Known, Unknown}
 use Rattle.text_keys.specs.declared.Notation.TheVariants.{Decimal, Hexadecimal, Chainwise}
 use Rattle.text_numbers.specs.Numbers.{number}
 use Rattle.text_characters.specs.Characters.{slice_of}
@@ -54,10 +54,10 @@ module _ (chains : ℕ) (k : Key) (l : List ℕ) where
   unfolding keyed
   keyed-value h = rw (le-leb (length l + 1) (longest k) (omega arith), keyed)
 
-  pub formed_known : key_of rows l ≡ Known k → formed chains l ≡ keyed chains k l
+  pub formed_known : key_of rows l ≡ Some k → formed chains l ≡ keyed chains k l
   unfolding formed named
   formed_known e = rw (e, named)
 
-pub formed_unknown : (chains : ℕ) (l : List ℕ) → key_of rows l ≡ Unknown → formed chains l ≡ Refused Form
+pub formed_unknown : (chains : ℕ) (l : List ℕ) → key_of rows l ≡ None → formed chains l ≡ Refused Form
 unfolding formed named
 formed_unknown chains l e = rw (e, named)

@@ -7,19 +7,14 @@
 --     keyed chains k l     what the line l with the key k says
 --     named chains n l     what the line l says that begins with the key n
 --     formed chains l      what the line l, without its line feed, says by its form
-use Rattle.std.specs.Prelude.{true, false, ◌&&◌, List, ℕ, ◌+◌, leb, eqb, length, drop}
+use Rattle.machine_slices.specs.declared.TestSlice.{TestSlice}
+use Rattle.std.specs.Prelude.{true, false, ◌&&◌, List, ℕ, ◌+◌, leb, eqb, length, drop, None, Option, Some}
 use Rattle.machine_chains.specs.Chains.{most_chains}
 use Rattle.text_numbers.specs.Numbers.{number}
 use Rattle.text_characters.specs.Characters.{slice_of}
 use Rattle.text_keys.specs.Keys.{rows, name, notation, longest}
 use Rattle.text_key_of.specs.Begins.{key_of}
-use Rattle.text_numbers.specs.declared.Numeral.{Numeral}
-use Rattle.text_numbers.specs.declared.Numeral.TheVariants as numeral
-use Rattle.text_characters.specs.declared.SliceSaid.{SliceSaid}
-use Rattle.text_characters.specs.declared.SliceSaid.TheVariants as said
 use Rattle.text_keys.specs.declared.Key.{Key}
-use Rattle.text_key_of.specs.declared.Named.{Named}
-use Rattle.text_key_of.specs.declared.Named.TheVariants.{Known, Unknown}
 use Rattle.text_keys.specs.declared.Notation.TheVariants.{Decimal, Hexadecimal, Chainwise}
 use Rattle.text_keys.specs.declared.LineCause.TheVariants.{Form}
 use Rattle.text_lines.specs.declared.Entry.{Entry}
@@ -29,13 +24,13 @@ use Rattle.text_lines.specs.declared.Line.TheVariants.{Said, Refused}
 abbrev pub entry : Key → ℕ → ℕ → Entry
 entry k a b = record { key = k; first = a; second = b }
 
-unfoldable pub numbered : Key → Numeral → Line
-numbered k numeral.Nothing = Refused Form
-numbered k (numeral.Value v) = Said (entry k v 0)
+unfoldable pub numbered : Key → Option ℕ → Line
+numbered k None = Refused Form
+numbered k (Some v) = Said (entry k v 0)
 
-unfoldable pub sliced : Key → SliceSaid → Line
-sliced k said.Nothing = Refused Form
-sliced k (said.Slice s) = Said (entry k s.specified s.bits)
+unfoldable pub sliced : Key → Option TestSlice → Line
+sliced k None = Refused Form
+sliced k (Some s) = Said (entry k s.specified s.bits)
 
 -- Exactly one character for each chain, of which there are at most 64.
 unfoldable pub characters : ℕ → Key → List ℕ → Line
@@ -53,9 +48,9 @@ valued chains k l = elim (notation k) [
 unfoldable pub keyed : ℕ → Key → List ℕ → Line
 keyed chains k l = elim (leb (length l + 1) (longest k)) [ true ↦ valued chains k (drop (length (name k)) l) | false ↦ Refused Form ]
 
-unfoldable pub named : ℕ → Named → List ℕ → Line
-named chains Unknown l = Refused Form
-named chains (Known k) l = keyed chains k l
+unfoldable pub named : ℕ → Option Key → List ℕ → Line
+named chains None l = Refused Form
+named chains (Some k) l = keyed chains k l
 
 unfoldable pub formed : ℕ → List ℕ → Line
 formed chains l = named chains (key_of rows l) l

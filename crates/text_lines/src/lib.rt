@@ -4,10 +4,8 @@
 ghost use Rattle.std.specs.Prelude.{◌≡◌, drop};
 ghost use Rattle.text_lines.specs.Form.{numbered as numbered_of, sliced as sliced_of, characters as characters_of, valued as valued_of, keyed as keyed_of, formed as formed_of};
 
-use text_characters::SliceSaid;
-use text_key_of::Named;
+use machine_slices::TestSlice;
 use text_keys::{Key, LineCause, Notation, Spelling};
-use text_numbers::Numeral;
 
 // What an accepted line says: its key, and its number and 0 or its slice's two numbers.
 #[derive(Clone, Copy)]
@@ -25,30 +23,30 @@ pub enum Line {
 }
 
 // The number for its key.
-fn numbered(key: Key, numeral: Numeral) -> Line
+fn numbered(key: Key, numeral: Option<u64>) -> Line
     ensures { result ≡ numbered_of key «numeral» }
 {
     match numeral {
-        Numeral::Value(v) => Line::Said(Entry {
+        Some(v) => Line::Said(Entry {
             key,
             first: v,
             second: 0,
         }),
-        Numeral::Nothing => Line::Refused(LineCause::Form),
+        None => Line::Refused(LineCause::Form),
     }
 }
 
 // The slice for its key.
-fn sliced(key: Key, said: SliceSaid) -> Line
+fn sliced(key: Key, said: Option<TestSlice>) -> Line
     ensures { result ≡ sliced_of key said }
 {
     match said {
-        SliceSaid::Slice(slice) => Line::Said(Entry {
+        Some(slice) => Line::Said(Entry {
             key,
             first: slice.specified,
             second: slice.bits,
         }),
-        SliceSaid::Nothing => Line::Refused(LineCause::Form),
+        None => Line::Refused(LineCause::Form),
     }
 }
 
@@ -104,7 +102,7 @@ pub fn formed(chains: usize, line: &[u8]) -> Line
     ensures { result ≡ formed_of chains line.now }
 {
     match text_key_of::key_of(line) {
-        Named::Known(key) => keyed(chains, key, line),
-        Named::Unknown => Line::Refused(LineCause::Form),
+        Some(key) => keyed(chains, key, line),
+        None => Line::Refused(LineCause::Form),
     }
 }

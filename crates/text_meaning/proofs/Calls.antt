@@ -14,8 +14,7 @@ use Rattle.refusal_causes.proofs.Outcome.{fill-whole, fill_short}
 use Rattle.text_order.specs.declared.Kind.{Kind}
 use Rattle.text_order.specs.declared.Kind.TheVariants.{Sheet, SeedList}
 use Rattle.text_replies.specs.Replies.{Reply, text, refused}
-use Rattle.text_replies.specs.Calls.{TextOutcome, answered, called}
-use Rattle.text_replies.specs.declared.Answer.TheVariants as answers
+use Rattle.text_replies.specs.Calls.{TextOutcome, answered, called, written, refused_with}
 use Rattle.text_calls.specs.Texts.{reply_to, call_of}
 use Rattle.text_meaning.specs.Calls.{ReplyMeaning, TextMeaning}
 use Rattle.text_meaning.proofs.Sheets.{sheet_means}
@@ -30,15 +29,15 @@ abbrev left : ℕ → Outcome → TextOutcome
 left n p = record { answer = answered n p.answer; buffer = p.buffer }
 
 module _ (bs : List ℕ) (n : ℕ) (out : List ℕ) where
-  called-whole : length bs ≤ length out → called (text bs n) out ≡ record { answer = answers.Text (length bs) n; buffer = bs ++ drop (length bs) out }
+  called-whole : length bs ≤ length out → called (text bs n) out ≡ record { answer = written (length bs) n; buffer = bs ++ drop (length bs) out }
   unfolding called answered
   called-whole h = ap (left n) (fill-whole bs out (length bs) refl h)
 
-  called_short : length out < length bs → called (text bs n) out ≡ record { answer = answers.Refused (refusal_of (cause.NoSpace (length bs))) n; buffer = out }
+  called_short : length out < length bs → called (text bs n) out ≡ record { answer = refused_with (refusal_of (cause.NoSpace (length bs))) n; buffer = out }
   unfolding called answered refuse
   called_short h = ap (left n) (fill_short bs out (length bs) refl h)
 
-called_refused : (c : Refusal) (out : List ℕ) → called (refused c) out ≡ record { answer = answers.Refused c 0; buffer = out }
+called_refused : (c : Refusal) (out : List ℕ) → called (refused c) out ≡ record { answer = refused_with c 0; buffer = out }
 unfolding called
 called_refused c out = refl
 

@@ -1,5 +1,6 @@
 -- What the reply to a seed list means (`list_means`): that of its expanding, which is lent as many entries as there can be slices, so that 9 does not come.
 -- Assumes nothing.
+use Rattle.std.specs.Prelude.{Err, Ok}
 use mathlib.Core.Path.{◌≡◌, refl, ap, ◌∙◌}
 use mathlib.Core.List.{List}
 use Prim.Native.Nat.{ℕ, ◌≤◌}
@@ -13,7 +14,6 @@ use Rattle.refusal_causes.specs.Outcome.{Outcome, refuse, fill}
 use Rattle.refusal_causes.specs.Sheet.{refusal_of}
 use Rattle.refusal_causes.proofs.Outcome.{fill-whole}
 use Rattle.refusal_order.specs.Order.{judged}
-use Rattle.refusal_order.specs.declared.Verdict.TheVariants as verdict
 use Rattle.refusal_lengths.proofs.Lengths.{list_within}
 use Rattle.refusal_checks.proofs.Formed.{list_formed}
 use Rattle.machine_settings.specs.declared.Settings.{Settings}
@@ -56,11 +56,11 @@ module _ (s : List ℕ) where
     unfolding refuse slices_reply
     reply_refused c e = reply_slices (refuse c lent) e
 
-    unformed : (c : Cause) → judged (list_faults_of s) ≡ verdict.Refused c → expand_reply s ≡ refused (refusal_of c)
+    unformed : (c : Cause) → judged (list_faults_of s) ≡ Err c → expand_reply s ≡ refused (refusal_of c)
     unfolding expand_list
     unformed c w = reply_refused c (rw (w, expand_list))
 
-    module _ (w : judged (list_faults_of s) ≡ verdict.WellFormed) where
+    module _ (w : judged (list_faults_of s) ≡ Ok tt) where
       ran_outcome : o ≡ totalled (slices_in s) lent (ran_of s)
       unfolding expand_list expanding
       ran_outcome = rw (w, expand_list)

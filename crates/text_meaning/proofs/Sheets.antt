@@ -1,8 +1,10 @@
 -- What the reply to a sheet means (`sheet_means`): the meaning of the encoding of cubes, which is lent as many entries as there can be slices, so that 9 does not come.
 -- Assumes nothing.
+use Rattle.text_replies.specs.Calls.{written}
+use Rattle.encoder_meaning.specs.declared.Encoded.{Encoded}
+use Rattle.std.specs.Prelude.{Err, None, Ok, Option, Result, Some}
 use mathlib.Core.Path.{◌≡◌, refl, sym, ap, ◌∙◌}
 use mathlib.Core.Logic.{inl, inr, ⊎_elim}
-use mathlib.Core.Option.{Option, none, some}
 use mathlib.Core.List.{List, [], ◌∷◌, ◌++◌, append_assoc}
 use Prim.Native.Nat.{ℕ, ◌≤◌}
 use native.Mathlib.Omega.{arith}
@@ -10,11 +12,8 @@ use lib.ListN.{length, length-replicate}
 use Rattle.refusal_causes.specs.declared.Cause.{Cause}
 use Rattle.refusal_causes.specs.declared.Cause.TheVariants as cause
 use Rattle.refusal_causes.specs.declared.Refusal.{Refusal}
-use Rattle.refusal_causes.specs.declared.Written.{Written}
-use Rattle.refusal_causes.specs.declared.Written.TheVariants as written
 use Rattle.refusal_causes.specs.Sheet.{refusal_of}
 use Rattle.refusal_order.specs.Order.{judged}
-use Rattle.refusal_order.specs.declared.Verdict.TheVariants as verdict
 use Rattle.refusal_lengths.proofs.Lengths.{set-within}
 use Rattle.refusal_checks.specs.Calls.{set_faults}
 use Rattle.refusal_checks.proofs.Formed.{set-formed}
@@ -33,8 +32,6 @@ use Rattle.encoder_meaning.specs.Meaning.{Listed, Meaning}
 use Rattle.encoder_meaning.proofs.Seeds.{covering_cuts}
 use Rattle.encoder_cubes.specs.Cubes.{CubesOutcome, stopped, with_stop, encode_cubes}
 use Rattle.encoder_cubes.specs.Meaning.{StoppedMeaning}
-use Rattle.encoder_meaning.specs.declared.Encoded.{Encoded}
-use Rattle.encoder_meaning.specs.declared.Encoded.TheVariants as encodings
 use Rattle.encoder_cubes.proofs.Cubes.{cubes_means}
 use Rattle.text_keys.specs.Bytes.{feed}
 use Rattle.text_keys.specs.Keys.{name}
@@ -62,7 +59,7 @@ text_refused bs n c e = let z : ◌≡◌ {A = ℕ} 0 1 = cc in omega arith
 
 -- ---- a list has no more seeds than slices
 
-listed_few : (g : Settings) (masks : List ℕ) (stop : TestSlice) (ps bs : List ℕ) → judged (set_faults g masks stop ps bs) ≡ verdict.WellFormed → (n : ℕ) → Listed (machine g masks) (rules g stop) (paired ps bs) n → n ≤ 2048
+listed_few : (g : Settings) (masks : List ℕ) (stop : TestSlice) (ps bs : List ℕ) → judged (set_faults g masks stop ps bs) ≡ Ok tt → (n : ℕ) → Listed (machine g masks) (rules g stop) (paired ps bs) n → n ≤ 2048
 listed_few g masks stop ps bs f n l =
     let w = set-formed g masks stop ps bs f in
     let M = machine g masks in
@@ -97,7 +94,7 @@ module _ (s : List ℕ) where
   abbrev o : CubesOutcome
   o = encode_cubes g masks depth ps bs lent
 
-  abbrev listed : Encoded → Reply
+  abbrev listed : Result Encoded Cause → Reply
   listed a = list_reply head (length masks) (length ps) o.buffer a
 
   module _ (read : ReadThrough Sheet s) where
@@ -106,7 +103,7 @@ module _ (s : List ℕ) where
     reply-listed = rw (read, concluded)
 
     -- A refused encoding refuses the sheet.
-    reply_refused : (c : Cause) → o.answer ≡ encodings.Refused c → encode_reply s ≡ refused (refusal_of c)
+    reply_refused : (c : Cause) → o.answer ≡ Err c → encode_reply s ≡ refused (refusal_of c)
     unfolding list_reply
     reply_refused c e = reply-listed ∙ ap listed e
 
@@ -114,35 +111,35 @@ module _ (s : List ℕ) where
       abbrev meaning : Meaning (machine_in s) (rules_in s stop) (set_of s) lent m.handed
       meaning = m.meaning.meaning m.formed
 
-      handed_answer : (w : Written) → m.handed.answer ≡ w → o.answer ≡ stopped stop w
+      handed_answer : (w : Result ℕ Cause) → m.handed.answer ≡ w → o.answer ≡ stopped stop w
       unfolding with_stop
       handed_answer w e = ap (λ (x : CubesOutcome). x.answer) m.outcome ∙ ap (stopped stop) e
 
-      refused_reply : (c : Cause) → m.handed.answer ≡ written.Refused c → encode_reply s ≡ refused (refusal_of c)
+      refused_reply : (c : Cause) → m.handed.answer ≡ Err c → encode_reply s ≡ refused (refusal_of c)
       unfolding stopped
-      refused_reply c e = reply_refused c (handed_answer (written.Refused c) e)
+      refused_reply c e = reply_refused c (handed_answer (Err c) e)
 
-      listed-reply : (n : ℕ) → m.handed.answer ≡ written.Count n → (list : List ℕ) × ((k : ℕ) × (encode_reply s ≡ text list k))
+      listed-reply : (n : ℕ) → m.handed.answer ≡ Ok n → (list : List ℕ) × ((k : ℕ) × (encode_reply s ≡ text list k))
       unfolding stopped list_reply
-      listed-reply n e = (_, (n, reply-listed ∙ ap listed (handed_answer (written.Count n) e)))
+      listed-reply n e = (_, (n, reply-listed ∙ ap listed (handed_answer (Ok n) e)))
 
       -- There is always space.
-      spacious : (n : ℕ) → m.handed.answer ≡ written.Refused (cause.NoSpace n) → ⊥
+      spacious : (n : ℕ) → m.handed.answer ≡ Err (cause.NoSpace n) → ⊥
       spacious n e =
           let q = meaning.no_space n e in
           omega (arith, listed_few g masks stop ps bs m.formed n q.0, q.1, length-replicate {A = ℕ} 2048 0)
 
       -- A reply by 8 is the encoding's.
-      uncut_reply : (k : ℕ) → encode_reply s ≡ refused (refusal_of (cause.NoCutting k)) → m.handed.answer ≡ written.Refused (cause.NoCutting k)
+      uncut_reply : (k : ℕ) → encode_reply s ≡ refused (refusal_of (cause.NoCutting k)) → m.handed.answer ≡ Err (cause.NoCutting k)
       uncut_reply k e = ⊎_elim counted (⊎_elim uncuttable (λ q. absurd (spacious q.0 q.1))) meaning.answered
         where
-          counted : (n : ℕ) × (m.handed.answer ≡ written.Count n) → m.handed.answer ≡ written.Refused (cause.NoCutting k)
+          counted : (n : ℕ) × (m.handed.answer ≡ Ok n) → m.handed.answer ≡ Err (cause.NoCutting k)
           counted q = absurd (text_refused _ _ _ (sym (listed-reply q.0 q.1).1.1 ∙ e))
 
-          uncuttable : (j : ℕ) × (m.handed.answer ≡ written.Refused (cause.NoCutting j)) → m.handed.answer ≡ written.Refused (cause.NoCutting k)
+          uncuttable : (j : ℕ) × (m.handed.answer ≡ Err (cause.NoCutting j)) → m.handed.answer ≡ Err (cause.NoCutting k)
           uncuttable q =
               let same : q.0 ≡ k = ap (λ (r : Refusal). r.value) (refused_is (refusal_of (cause.NoCutting q.0)) (refusal_of (cause.NoCutting k)) (sym (refused_reply (cause.NoCutting q.0) q.1) ∙ e)) in
-              q.1 ∙ ap (λ j. written.Refused (cause.NoCutting j)) same
+              q.1 ∙ ap (λ j. Err (cause.NoCutting j)) same
 
       -- The list has the head that is written for the sheet, which is the sheet's own.
       repeats : (list : List ℕ) (n : ℕ) → Quoted s stop list n → Repeats s list
@@ -152,7 +149,7 @@ module _ (s : List ℕ) where
           let others = number_line 10 (name key.Slices) (length ps) ++ number_lines 16 (name key.Seed) q.seeds in
           (stopped-at ++ others, q.printed ∙ ap (λ x. head ++ x) (append_assoc (name key.Stop) stopped-at others) ∙ ap (λ h. h ++ (name key.Stop ++ (stopped-at ++ others))) (sym (head_spelt s read)))
 
-      stopped_means : stop_for (length masks) (set_of s) ≡ some stop → StoppedSheet s stop (encode_reply s)
+      stopped_means : stop_for (length masks) (set_of s) ≡ Some stop → StoppedSheet s stop (encode_reply s)
       stopped_means its = record {
         answered = ⊎_elim (λ q. inl (listed-reply q.0 q.1)) (⊎_elim (λ q. inr (q.0, refused_reply _ q.1)) (λ q. absurd (spacious q.0 q.1))) meaning.answered;
         accepted = λ list n e. (let q = quoted s list n stop its e in (q, round_trip s list n e, repeats list n q));
@@ -161,19 +158,19 @@ module _ (s : List ℕ) where
       }
 
   -- What is refused before the encoding, or for want of a stop slice.
-  answer_refused : (c : Cause) → o ≡ record { answer = encodings.Refused c; buffer = lent } → o.answer ≡ encodings.Refused c
+  answer_refused : (c : Cause) → o ≡ record { answer = Err c; buffer = lent } → o.answer ≡ Err c
   answer_refused c e = ap (λ (x : CubesOutcome). x.answer) e
 
   -- With a stop slice, the reply is a list or 8.
-  six_only : (read : ReadThrough Sheet s) → judged (sheet_faults s) ≡ verdict.WellFormed → encode_reply s ≡ refused (refusal_of cause.AllTaken) → NoneGood (length masks) (set_of s)
+  six_only : (read : ReadThrough Sheet s) → judged (sheet_faults s) ≡ Ok tt → encode_reply s ≡ refused (refusal_of cause.AllTaken) → NoneGood (length masks) (set_of s)
   six_only read w six = go (stop_for (length masks) (set_of s)) refl
     where
       numbers : (c : Cause) → encode_reply s ≡ refused (refusal_of c) → (refusal_of c).number ≡ 6
       numbers c e = ap (λ (r : Refusal). r.number) (refused_is (refusal_of c) (refusal_of cause.AllTaken) (sym e ∙ six))
 
       go : (o : Option TestSlice) → stop_for (length masks) (set_of s) ≡ o → NoneGood (length masks) (set_of s)
-      go none e = ((cubes_means g masks ps bs lent depth).unstopped w e).1.none_good
-      go (some stop) e = absurd (⊎_elim
+      go None e = ((cubes_means g masks ps bs lent depth).unstopped w e).1.none_good
+      go (Some stop) e = absurd (⊎_elim
           (λ q. text_refused _ _ _ (sym q.1.1 ∙ six))
           (λ q. (let n = numbers (cause.NoCutting q.0) q.1 in omega arith))
           (stopped_means read stop ((cubes_means g masks ps bs lent depth).stopped w stop e) e).answered)

@@ -8,8 +8,7 @@ use Rattle.refusal_causes.specs.Sheet.{refusal_of}
 use Rattle.text_order.specs.declared.Kind.{Kind}
 use Rattle.text_order.specs.declared.Kind.TheVariants.{Sheet, SeedList}
 use Rattle.text_replies.specs.Replies.{Reply, text, refused}
-use Rattle.text_replies.specs.Calls.{TextOutcome}
-use Rattle.text_replies.specs.declared.Answer.TheVariants as answers
+use Rattle.text_replies.specs.Calls.{TextOutcome, written, refused_with}
 use Rattle.text_meaning.specs.Sheets.{SheetMeaning}
 use Rattle.text_meaning.specs.Lists.{ListMeaning}
 
@@ -21,8 +20,8 @@ pub record TextMeaning (kind : Kind) (s out : List ℕ) (o : TextOutcome) : Type
   pub reply : Reply
   pub means : ReplyMeaning kind s reply
   -- accepted: the text stands in the buffer, with its bytes and its seeds or slices told, and every other byte is as it was
-  pub accepted : (bs : List ℕ) (n : ℕ) → reply ≡ text bs n → length bs ≤ length out → o ≡ record { answer = answers.Text (length bs) n; buffer = bs ++ drop (length bs) out }
+  pub accepted : (bs : List ℕ) (n : ℕ) → reply ≡ text bs n → length bs ≤ length out → o ≡ record { answer = written (length bs) n; buffer = bs ++ drop (length bs) out }
   -- 9, only the space is short: the bytes needed, and beside them the seeds or slices that enough space would have given
-  pub no_space : (bs : List ℕ) (n : ℕ) → reply ≡ text bs n → length out < length bs → o ≡ record { answer = answers.Refused (refusal_of (cause.NoSpace (length bs))) n; buffer = out }
+  pub no_space : (bs : List ℕ) (n : ℕ) → reply ≡ text bs n → length out < length bs → o ≡ record { answer = refused_with (refusal_of (cause.NoSpace (length bs))) n; buffer = out }
   -- refused: every byte is as it was
-  pub refuses : (c : Refusal) → reply ≡ refused c → o ≡ record { answer = answers.Refused c 0; buffer = out }
+  pub refuses : (c : Refusal) → reply ≡ refused c → o ≡ record { answer = refused_with c 0; buffer = out }

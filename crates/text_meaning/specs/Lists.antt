@@ -4,14 +4,13 @@
 --     list_faults_of s      which of causes 1, 2, 3 and 5 hold over the whole list
 --     ran_of s             what its seeds deliver, one after another, by the published register rule: their slices, or the cause of the first refused seed, or 14 where nothing is left for the last one
 --     ListMeaning s r     what the reply r says of the list s
-use Rattle.std.specs.Prelude.{◌≡◌, List, ℕ, length}
+use Rattle.std.specs.Prelude.{◌≡◌, List, ℕ, length, Err, Ok}
 use Rattle.refusal_causes.specs.declared.Cause.{Cause}
 use Rattle.refusal_causes.specs.declared.Cause.TheVariants as cause
 use Rattle.refusal_causes.specs.declared.Refusal.{Refusal}
 use Rattle.refusal_causes.specs.Sheet.{refusal_of}
 use Rattle.refusal_order.specs.Order.{judged}
 use Rattle.refusal_order.specs.declared.Faults.{Faults}
-use Rattle.refusal_order.specs.declared.Verdict.TheVariants as verdict
 use Rattle.refusal_checks.specs.Calls.{list_faults}
 use Rattle.machine_settings.specs.Machine.{machine}
 use Rattle.theory_covering.specs.Rules.{rules}
@@ -19,7 +18,6 @@ use Rattle.expander_meaning.specs.Expanding.{Walk, ran, failed, walk}
 use Rattle.text_keys.specs.declared.Key.TheVariants as key
 use Rattle.text_lines.specs.declared.Entry.{Entry}
 use Rattle.text_order.specs.declared.Kind.TheVariants.{SeedList}
-use Rattle.text_ending.specs.declared.Scanned.TheVariants as scanned
 use Rattle.text_entries.specs.Said.{masks_of, number_for, slice_for, settings_of}
 use Rattle.text_reading.specs.Reading.{reading_of}
 use Rattle.text_expand.specs.List.{seeds_of}
@@ -41,8 +39,8 @@ ran_of s = walk (machine (settings_of (list_of s)) (masks_of (list_of s))) (rule
 
 -- The first refused line; then the first of causes 1, 2, 3 and 5 that holds over the whole; then the first refused seed, or nothing left for the last; then 14; otherwise the slices of the register rule, a line each.
 pub record ListMeaning (s : List ℕ) (r : Reply) : Type 0 where
-  pub line : (c : Refusal) → (reading_of SeedList s).end ≡ scanned.Refused c → StopsAt SeedList s c × (r ≡ refused c)
-  pub unformed : ReadThrough SeedList s → (c : Cause) → judged (list_faults_of s) ≡ verdict.Refused c → r ≡ refused (refusal_of c)
-  pub seed : ReadThrough SeedList s → judged (list_faults_of s) ≡ verdict.WellFormed → (c : Cause) → ran_of s ≡ failed c → r ≡ refused (refusal_of c)
-  pub total : ReadThrough SeedList s → judged (list_faults_of s) ≡ verdict.WellFormed → (vs : List ℕ) → ran_of s ≡ ran vs → (length vs ≡ slices_in s → ⊥) → r ≡ refused (refusal_of (cause.Total (length vs)))
-  pub accepted : ReadThrough SeedList s → judged (list_faults_of s) ≡ verdict.WellFormed → (vs : List ℕ) → ran_of s ≡ ran vs → length vs ≡ slices_in s → r ≡ text (slice_lines (length (masks_of (list_of s))) vs) (length vs)
+  pub line : (c : Refusal) → (reading_of SeedList s).end ≡ Err c → StopsAt SeedList s c × (r ≡ refused c)
+  pub unformed : ReadThrough SeedList s → (c : Cause) → judged (list_faults_of s) ≡ Err c → r ≡ refused (refusal_of c)
+  pub seed : ReadThrough SeedList s → judged (list_faults_of s) ≡ Ok tt → (c : Cause) → ran_of s ≡ failed c → r ≡ refused (refusal_of c)
+  pub total : ReadThrough SeedList s → judged (list_faults_of s) ≡ Ok tt → (vs : List ℕ) → ran_of s ≡ ran vs → (length vs ≡ slices_in s → ⊥) → r ≡ refused (refusal_of (cause.Total (length vs)))
+  pub accepted : ReadThrough SeedList s → judged (list_faults_of s) ≡ Ok tt → (vs : List ℕ) → ran_of s ≡ ran vs → length vs ≡ slices_in s → r ≡ text (slice_lines (length (masks_of (list_of s))) vs) (length vs)

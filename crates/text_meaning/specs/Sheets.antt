@@ -6,15 +6,13 @@
 --     Repeats s list             the list has every line of the sheet s that stands before depth, byte for byte, and then its stop line
 --     StoppedSheet s stop r      what the reply r says of a sheet whose set has the stop slice
 --     SheetMeaning s r           what the reply r says of the sheet s
-use Rattle.std.specs.Prelude.{◌≡◌, ◌↔◌, ◌⊎◌, List, ◌++◌, ℕ, ◌+◌, length}
-use Rattle.std.proofs.Math.Option.{none, some}
+use Rattle.std.specs.Prelude.{◌≡◌, ◌↔◌, ◌⊎◌, List, ◌++◌, ℕ, ◌+◌, length, Err, None, Ok, Some}
 use Rattle.refusal_causes.specs.declared.Cause.{Cause}
 use Rattle.refusal_causes.specs.declared.Cause.TheVariants as cause
 use Rattle.refusal_causes.specs.declared.Refusal.{Refusal}
 use Rattle.refusal_causes.specs.Sheet.{refusal_of}
 use Rattle.refusal_order.specs.Order.{judged}
 use Rattle.refusal_order.specs.declared.Faults.{Faults}
-use Rattle.refusal_order.specs.declared.Verdict.TheVariants as verdict
 use Rattle.refusal_checks.specs.Calls.{cubes_faults}
 use Rattle.machine_settings.specs.Machine.{Machine, machine}
 use Rattle.machine_slices.specs.declared.TestSlice.{TestSlice}
@@ -29,7 +27,6 @@ use Rattle.text_keys.specs.declared.Key.TheVariants as key
 use Rattle.text_split.specs.Text.{split}
 use Rattle.text_order.specs.declared.Kind.{Kind}
 use Rattle.text_order.specs.declared.Kind.TheVariants.{Sheet}
-use Rattle.text_ending.specs.declared.Scanned.TheVariants as scanned
 use Rattle.text_entries.specs.Said.{masks_of, number_for, settings_of}
 use Rattle.text_reading.specs.Reading.{reading_of}
 use Rattle.text_encode.specs.Sheet.{specified_of, bits_of}
@@ -39,11 +36,11 @@ use Rattle.text_roundtrip.specs.RoundTrip.{sheet_of, set_of, Quoted, GivesBack}
 
 -- The lines before it are accepted, one entry each; after the last line, one more.
 pub record StopsAt (kind : Kind) (s : List ℕ) (c : Refusal) : Type 0 where
-  pub stops : (reading_of kind s).end ≡ scanned.Refused c
+  pub stops : (reading_of kind s).end ≡ Err c
   pub line : c.value ≡ length (reading_of kind s).entries + 1
 
 abbrev pub ReadThrough : Kind → List ℕ → Type 0
-ReadThrough kind s = (reading_of kind s).end ≡ scanned.Whole
+ReadThrough kind s = (reading_of kind s).end ≡ Ok tt
 
 abbrev pub sheet_faults : List ℕ → Faults
 sheet_faults s = cubes_faults (settings_of (sheet_of s)) (masks_of (sheet_of s)) (number_for key.Depth (sheet_of s)) (specified_of (sheet_of s)) (bits_of (sheet_of s))
@@ -69,10 +66,10 @@ pub record StoppedSheet (s : List ℕ) (stop : TestSlice) (r : Reply) : Type 0 w
 
 -- The first refused line; then the first of causes 1 to 4 that holds over the whole; then 6 exactly where no stop slice is good for the set; otherwise its stop slice, and the list or 8.
 pub record SheetMeaning (s : List ℕ) (r : Reply) : Type 0 where
-  pub line : (c : Refusal) → (reading_of Sheet s).end ≡ scanned.Refused c → StopsAt Sheet s c × (r ≡ refused c)
-  pub unformed : ReadThrough Sheet s → (c : Cause) → judged (sheet_faults s) ≡ verdict.Refused c → r ≡ refused (refusal_of c)
-  pub unstopped : ReadThrough Sheet s → judged (sheet_faults s) ≡ verdict.WellFormed → stop_for (length (masks_of (sheet_of s))) (set_of s) ≡ none
+  pub line : (c : Refusal) → (reading_of Sheet s).end ≡ Err c → StopsAt Sheet s c × (r ≡ refused c)
+  pub unformed : ReadThrough Sheet s → (c : Cause) → judged (sheet_faults s) ≡ Err c → r ≡ refused (refusal_of c)
+  pub unstopped : ReadThrough Sheet s → judged (sheet_faults s) ≡ Ok tt → stop_for (length (masks_of (sheet_of s))) (set_of s) ≡ None
       → (r ≡ refused (refusal_of cause.AllTaken)) × SixMeaning (length (masks_of (sheet_of s))) (set_of s)
-  pub exactly : ReadThrough Sheet s → judged (sheet_faults s) ≡ verdict.WellFormed → (r ≡ refused (refusal_of cause.AllTaken)) ↔ NoneGood (length (masks_of (sheet_of s))) (set_of s)
-  pub stopped : ReadThrough Sheet s → judged (sheet_faults s) ≡ verdict.WellFormed → (stop : TestSlice) → stop_for (length (masks_of (sheet_of s))) (set_of s) ≡ some stop
+  pub exactly : ReadThrough Sheet s → judged (sheet_faults s) ≡ Ok tt → (r ≡ refused (refusal_of cause.AllTaken)) ↔ NoneGood (length (masks_of (sheet_of s))) (set_of s)
+  pub stopped : ReadThrough Sheet s → judged (sheet_faults s) ≡ Ok tt → (stop : TestSlice) → stop_for (length (masks_of (sheet_of s))) (set_of s) ≡ Some stop
       → StoppedSheet s stop r

@@ -4,6 +4,7 @@
 --     zero_leads, no_zero_leads              whether a 0 stands before other bytes
 --     number-length, number_zero, number_digits     a number, by its length and by a leading zero
 -- Assumes nothing.
+use Rattle.std.specs.Prelude.{None, Some}
 use mathlib.Core.Bool.{true, false}
 use mathlib.Core.Logic.{◌⊎◌, inl, inr}
 use mathlib.Core.Path.{◌≡◌, refl}
@@ -18,18 +19,17 @@ use lib.ListN.{length, get_or, drop, drop_of_length-le}
 use lib.Seq.{drop-cons}
 use Rattle.words_bounded.specs.Bounded.{within}
 use Rattle.text_numbers.specs.Numbers.{worth, digits, leading_zero, number}
-use Rattle.text_numbers.specs.declared.Numeral.TheVariants.{Value, Nothing}
 
 module _ (base v : ℕ) (l : List ℕ) (i : ℕ) where
   pub digits_go : i < length l → worth (get_or l i 0) < base → digits base v (drop i l) ≡ digits base (v * base + worth (get_or l i 0)) (drop (i + 1) l)
   unfolding digits
   digits_go h t = rw (drop-cons l i 0 h, lt-ltb _ _ t, digits, add-one)
 
-  pub digits-none : i < length l → base ≤ worth (get_or l i 0) → digits base v (drop i l) ≡ Nothing
+  pub digits-none : i < length l → base ≤ worth (get_or l i 0) → digits base v (drop i l) ≡ None
   unfolding digits
   digits-none h t = rw (drop-cons l i 0 h, le-ltb _ _ t, digits)
 
-  pub digits_end : length l ≤ i → digits base v (drop i l) ≡ Value v
+  pub digits_end : length l ≤ i → digits base v (drop i l) ≡ Some v
   unfolding digits
   digits_end h = rw (drop_of_length-le l h)
 
@@ -54,11 +54,11 @@ no_zero_leads (b ∷ c ∷ l) (inl h) = absurd (omega arith)
 no_zero_leads (b ∷ c ∷ l) (inr e) = ne_eqb b 48 e
 
 module _ (base most : ℕ) (l : List ℕ) where
-  pub number-length : within 1 most (length l) ≡ false → number base most l ≡ Nothing
+  pub number-length : within 1 most (length l) ≡ false → number base most l ≡ None
   unfolding number
   number-length e = rw (e, number)
 
-  pub number_zero : within 1 most (length l) ≡ true → leading_zero l ≡ true → number base most l ≡ Nothing
+  pub number_zero : within 1 most (length l) ≡ true → leading_zero l ≡ true → number base most l ≡ None
   unfolding number
   number_zero e z = rw (e, z, number)
 

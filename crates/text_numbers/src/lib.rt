@@ -4,64 +4,46 @@
 ghost use Rattle.std.specs.Prelude.{◌≡◌, ◌≤◌, ◌^◌, length};
 ghost use Rattle.text_numbers.specs.Numbers.{worth as worth_of, digits as digits_of, number as number_of};
 
-// The number that digits say.
-#[derive(Clone, Copy)]
-pub enum Numeral {
-    Value(u64),
-    Nothing,
-}
-
 // What a byte is worth as a digit; 16 where it is none.
 fn worth(b: u8) -> u64
     ensures { result ≡ worth_of b }
 {
-    let code = b as u64;
-    if code < 48 {
-        return 16;
+    if (b'0'..=b'9').contains(&b) {
+        (b - b'0') as u64
+    } else if (b'a'..=b'f').contains(&b) {
+        (b - b'a' + 10) as u64
+    } else {
+        16
     }
-    if code <= 57 {
-        return code - 48;
-    }
-    if code < 97 {
-        return 16;
-    }
-    if code <= 102 {
-        return code - 87;
-    }
-    16
 }
 
 // The number that the bytes say as digits.
-fn digits(base: u64, value: &[u8]) -> Numeral
+fn digits(base: u64, value: &[u8]) -> Option<u64>
     requires { (1 ≤ base) × (base ^ length value.now ≤ 2 ^ 64) }
     ensures { result ≡ digits_of base 0 value.now }
 {
     let mut v = 0;
-    let mut i = 0;
-    while i < value.len() {
-        let d = worth(value[i]);
+    for &b in value {
+        let d = worth(b);
         if base <= d {
-            return Numeral::Nothing;
+            return None;
         }
         v = v * base + d;
-        i += 1;
     }
-    Numeral::Value(v)
+    Some(v)
 }
 
 // The number that 1 to `most` digits say, with no leading zero.
 // An inner function: its callers show that the base is no 0 and that so many digits fit a word.
-pub fn number(base: u64, most: usize, value: &[u8]) -> Numeral
+pub fn number(base: u64, most: usize, value: &[u8]) -> Option<u64>
     requires { (1 ≤ base) × (base ^ most ≤ 2 ^ 64) }
     ensures { result ≡ number_of base most value.now }
 {
-    if !words_bounded::within(1, most, value.len()) {
-        return Numeral::Nothing;
+    if !(1..=most).contains(&value.len()) {
+        return None;
     }
-    if 1 < value.len() {
-        if value[0] == b'0' {
-            return Numeral::Nothing;
-        }
+    if value.len() > 1 && value[0] == b'0' {
+        return None;
     }
     digits(base, value)
 }

@@ -79,12 +79,7 @@ fn after(kind: Kind, key: Key) -> u64
 fn missing(place: Place) -> bool
     ensures { result ≡ missing_of place }
 {
-    let last = place.last;
-    if text_keys::same(last, Key::Chain) {
-        place.run < place.chains
-    } else {
-        false
-    }
+    place.last == Key::Chain && place.run < place.chains
 }
 
 // The keys that may stand at a place.

@@ -19,12 +19,7 @@ pub struct Place {
 pub fn run_of(place: Place, key: Key) -> usize
     ensures { result ≡ run_of place key }
 {
-    let last = place.last;
-    if text_keys::same(last, key) {
-        place.run
-    } else {
-        0
-    }
+    if place.last == key { place.run } else { 0 }
 }
 
 // The number of a line where it is asked for, or the one before.
@@ -41,8 +36,8 @@ pub fn moved(place: Place, key: Key, v: u64) -> Place
     ensures { result ≡ moved_of place key v }
 {
     let run = run_of(place, key) + 1;
-    let cells = number_if(text_keys::same(key, Key::Cells), v, place.cells);
-    let chains = number_if(text_keys::same(key, Key::Chains), v, place.chains);
+    let cells = number_if(key == Key::Cells, v, place.cells);
+    let chains = number_if(key == Key::Chains, v, place.chains);
     Place {
         last: key,
         run,

@@ -3,6 +3,8 @@
 --     said-formed     an accepted line is read by its form as what it says
 --     said-starts     it begins with the name of its key, and with no other name
 -- Assumes nothing.
+use Rattle.std.specs.Prelude.{None, Option, Some}
+use Rattle.machine_slices.specs.declared.TestSlice.{TestSlice}
 use mathlib.Core.Logic.{⊎_elim}
 use mathlib.Core.Path.{◌≡◌, refl, sym, ap, ◌∙◌}
 use mathlib.Core.List.{List}
@@ -10,19 +12,13 @@ use Prim.Native.Nat.{ℕ}
 use lib.ListN.{length, drop}
 use Rattle.words_bounded.proofs.Tests.{lt_or_le, eq_or_not}
 use Rattle.text_numbers.specs.Numbers.{number}
-use Rattle.text_numbers.specs.declared.Numeral.{Numeral}
-use Rattle.text_numbers.specs.declared.Numeral.TheVariants as numeral
 use Rattle.text_characters.specs.Characters.{slice_of}
-use Rattle.text_characters.specs.declared.SliceSaid.{SliceSaid}
-use Rattle.text_characters.specs.declared.SliceSaid.TheVariants as said
 use Rattle.text_keys.specs.Keys.{rows, name, same, notation, longest}
 use Rattle.text_keys.specs.declared.Key.{Key}
 use Rattle.text_keys.specs.declared.LineCause.TheVariants.{Form}
 use Rattle.text_keys.specs.declared.Notation.{Notation}
 use Rattle.text_keys.specs.declared.Notation.TheVariants.{Decimal, Hexadecimal, Chainwise}
 use Rattle.text_key_of.specs.Begins.{starts, key_of}
-use Rattle.text_key_of.specs.declared.Named.{Named}
-use Rattle.text_key_of.specs.declared.Named.TheVariants.{Known, Unknown}
 use Rattle.text_key_of.proofs.Names.{starts-same}
 use Rattle.text_lines.specs.Form.{entry, numbered, sliced, characters, valued, keyed, formed}
 use Rattle.text_lines.specs.declared.Entry.{Entry}
@@ -36,15 +32,15 @@ use Rattle.text_ranges.proofs.Ranging.{saying-said, saying_refused}
 use Rattle.text_ranges.proofs.Accepting.{refused_said, said_inj, tested_accepted}
 
 module _ (k : Key) (e : Entry) where
-  numbered_key : (d : Numeral) → numbered k d ≡ Said e → e.key ≡ k
+  numbered_key : (d : Option ℕ) → numbered k d ≡ Said e → e.key ≡ k
   unfolding numbered
-  numbered_key numeral.Nothing q = absurd (refused_said Form e q)
-  numbered_key (numeral.Value v) q = rw (sym (said_inj (entry k v 0) e q)) refl
+  numbered_key None q = absurd (refused_said Form e q)
+  numbered_key (Some v) q = rw (sym (said_inj (entry k v 0) e q)) refl
 
-  sliced_key : (d : SliceSaid) → sliced k d ≡ Said e → e.key ≡ k
+  sliced_key : (d : Option TestSlice) → sliced k d ≡ Said e → e.key ≡ k
   unfolding sliced
-  sliced_key said.Nothing q = absurd (refused_said Form e q)
-  sliced_key (said.Slice s) q = rw (sym (said_inj (entry k s.specified s.bits) e q)) refl
+  sliced_key None q = absurd (refused_said Form e q)
+  sliced_key (Some s) q = rw (sym (said_inj (entry k s.specified s.bits) e q)) refl
 
   module _ (chains : ℕ) (l : List ℕ) where
     characters_key : characters chains k l ≡ Said e → e.key ≡ k
@@ -69,12 +65,12 @@ module _ (k : Key) (e : Entry) where
       (λ h. absurd (refused_said Form e (sym (keyed_long chains k l h) ∙ q)))
       (lt_or_le (length l) (longest k))
 
-pub formed_key : (chains : ℕ) (l : List ℕ) (e : Entry) → formed chains l ≡ Said e → key_of rows l ≡ Known e.key
+pub formed_key : (chains : ℕ) (l : List ℕ) (e : Entry) → formed chains l ≡ Said e → key_of rows l ≡ Some e.key
 formed_key chains l e q = go (key_of rows l) refl
   where
-    go : (n : Named) → key_of rows l ≡ n → key_of rows l ≡ Known e.key
-    go Unknown u = absurd (refused_said Form e (sym (formed_unknown chains l u) ∙ q))
-    go (Known k) u = u ∙ ap Known (sym (keyed_key k e chains l (sym (formed_known chains k l u) ∙ q)))
+    go : (n : Option Key) → key_of rows l ≡ n → key_of rows l ≡ Some e.key
+    go None u = absurd (refused_said Form e (sym (formed_unknown chains l u) ∙ q))
+    go (Some k) u = u ∙ ap Some (sym (keyed_key k e chains l (sym (formed_known chains k l u) ∙ q)))
 
 module _ (kind : Kind) (p : Place) (l : List ℕ) (e : Entry) (s : saying kind p l ≡ Said e) where
   pub said-formed : formed p.chains l ≡ Said e

@@ -13,6 +13,7 @@
 --     at_depth, above_depth     with the depth line in front, and with a line before it
 --     heading               so it is with every sheet that is read through
 -- Assumes nothing.
+use Rattle.std.specs.Prelude.{Ok}
 use mathlib.Core.Bool.{Bool, true, false, not, ◌&&◌}
 use mathlib.Core.Path.{◌≡◌, refl, sym, ap, subst, ◌∙◌}
 use mathlib.Core.List.{List, [], ◌∷◌, ◌++◌, append_assoc}
@@ -46,7 +47,6 @@ use Rattle.text_ranges.specs.Ranges.{saying}
 use Rattle.text_ranges.proofs.Ranging.{saying-said, tested_right}
 use Rattle.text_ranges.proofs.Accepting.{line_accepted}
 use Rattle.text_ranges.proofs.Keys.{said-formed, said-starts}
-use Rattle.text_ending.specs.declared.Scanned.TheVariants.{Whole}
 use Rattle.text_ending.proofs.Ends.{end_early, refused_whole}
 use Rattle.text_reading.specs.Reading.{told, onward, reading}
 use Rattle.text_readback.specs.Before.{lines_before}
@@ -216,14 +216,14 @@ module _ (p : Place) (i : Held p) (l : List ℕ) (t : Text) (f : Entry) (s : say
         tails = r.tails;
       }
 
-pub heading : (t : Text) (p : Place) (n : ℕ) → plain t ≡ true → Held p → (reading Sheet p n t).end ≡ Whole → Heading p t (reading Sheet p n t).entries
+pub heading : (t : Text) (p : Place) (n : ℕ) → plain t ≡ true → Held p → (reading Sheet p n t).end ≡ Ok tt → Heading p t (reading Sheet p n t).entries
 unfolding reading plain
 heading (rest []) p n u i e = absurd (refused_whole _ (sym (end_early Sheet p n (head-ends p i.heads)) ∙ e))
 heading (rest (b ∷ o)) p n u i e = absurd (refused_whole _ e)
 heading (line l t) p n u i e = go (saying Sheet p l) refl e (λ q m. heading t q m (both (not (any is_feed l)) (plain t) u).1)
   where
-    go : (a : Line) → saying Sheet p l ≡ a → (onward a (λ f. reading Sheet (moved p f.key f.first) (n + 1) t) n).end ≡ Whole
-        → ((q : Place) (m : ℕ) → Held q → (reading Sheet q m t).end ≡ Whole → Heading q t (reading Sheet q m t).entries)
+    go : (a : Line) → saying Sheet p l ≡ a → (onward a (λ f. reading Sheet (moved p f.key f.first) (n + 1) t) n).end ≡ Ok tt
+        → ((q : Place) (m : ℕ) → Held q → (reading Sheet q m t).end ≡ Ok tt → Heading q t (reading Sheet q m t).entries)
         → Heading p (line l t) (onward a (λ f. reading Sheet (moved p f.key f.first) (n + 1) t) n).entries
     go (lines.Refused c) s e ih = absurd (refused_whole _ e)
     go (lines.Said f) s e ih = by (same f.key key.Depth) refl

@@ -3,6 +3,7 @@
 --     reads_end             nothing more, where the text may end
 --     line_reads            a line that is written, in front of a text that is read through
 -- Assumes nothing.
+use Rattle.std.specs.Prelude.{Ok}
 use mathlib.Core.Bool.{true}
 use mathlib.Core.Path.{◌≡◌, ap, ◌∙◌}
 use mathlib.Core.List.{List, [], ◌∷◌, ◌++◌, append_assoc}
@@ -20,7 +21,6 @@ use Rattle.text_place.specs.declared.Place.{Place}
 use Rattle.text_ranges.specs.Ranges.{saying}
 use Rattle.text_ranges.proofs.Ranging.{saying-said, tested_right}
 use Rattle.text_ranges.proofs.Accepting.{Accepted}
-use Rattle.text_ending.specs.declared.Scanned.TheVariants.{Whole}
 use Rattle.text_ending.proofs.Ends.{end_whole}
 use Rattle.text_reading.specs.Reading.{stops, told, onward, reading}
 use Rattle.text_readback.specs.Written.{value, written, Spelt}
@@ -28,7 +28,7 @@ use Rattle.text_readback.proofs.Splitting.{line_plain, split-feed}
 use Rattle.text_readback.proofs.Forms.{formed_back}
 
 abbrev pub Reads : Kind → Place → List ℕ → List Entry → Type 0
-Reads kind p s es = (n : ℕ) → reading kind p n (split s) ≡ record { entries = es; end = Whole }
+Reads kind p s es = (n : ℕ) → reading kind p n (split s) ≡ record { entries = es; end = Ok tt }
 
 module _ (kind : Kind) (p : Place) where
   pub reads_end : may_end kind p ≡ true → Reads kind p [] []

@@ -9,6 +9,7 @@
 --     first_counts, none_leads     no 0 stands before them
 --     number_back       the numeral of a number is read as the number
 -- Assumes nothing.
+use Rattle.std.specs.Prelude.{None, Some}
 use mathlib.Core.Bool.{Bool, true, false}
 use mathlib.Core.Logic.{inl, inr, ⊎_elim}
 use mathlib.Core.Path.{◌≡◌, ap, ◌∙◌}
@@ -21,7 +22,6 @@ use lib.Dec.{ltb}
 use lib.ListN.{length, get_or, length-append, get_or-append}
 use Rattle.words_bounded.proofs.Tests.{lt_or_le, above_within, within_holds}
 use Rattle.text_numbers.specs.Numbers.{worth, digits, leading_zero, number}
-use Rattle.text_numbers.specs.declared.Numeral.TheVariants.{Value, Nothing}
 use Rattle.text_numbers.proofs.Numerals.{no_zero_leads, number_digits}
 use Rattle.text_write_numbers.specs.Numerals.{glyph, last_digits, numeral}
 use Rattle.text_write_numbers.proofs.Digits.{digit_room, digit_less}
@@ -61,14 +61,14 @@ module _ (d base n : ℕ) where
   unfolding last_digits
   digits_more h = rw (le-ltb n base h, last_digits)
 
-digits_behind : (base v w b : ℕ) (l : List ℕ) → digits base v l ≡ Value w → worth b < base → digits base v (l ++ (b ∷ [])) ≡ Value (w * base + worth b)
+digits_behind : (base v w b : ℕ) (l : List ℕ) → digits base v l ≡ Some w → worth b < base → digits base v (l ++ (b ∷ [])) ≡ Some (w * base + worth b)
 unfolding digits
 digits_behind base v w b [] e h = let q : v ≡ w = cc in rw (lt-ltb (worth b) base h, digits, q)
 digits_behind base v w b (a ∷ l) e h = go (ltb (worth a) base) e (digits_behind base (v * base + worth a) w b l)
   where
-    go : (t : Bool) → elim t [ true ↦ digits base (v * base + worth a) l | false ↦ Nothing ] ≡ Value w
-        → (digits base (v * base + worth a) l ≡ Value w → worth b < base → digits base (v * base + worth a) (l ++ (b ∷ [])) ≡ Value (w * base + worth b))
-        → elim t [ true ↦ digits base (v * base + worth a) (l ++ (b ∷ [])) | false ↦ Nothing ] ≡ Value (w * base + worth b)
+    go : (t : Bool) → elim t [ true ↦ digits base (v * base + worth a) l | false ↦ None ] ≡ Some w
+        → (digits base (v * base + worth a) l ≡ Some w → worth b < base → digits base (v * base + worth a) (l ++ (b ∷ [])) ≡ Some (w * base + worth b))
+        → elim t [ true ↦ digits base (v * base + worth a) (l ++ (b ∷ [])) | false ↦ None ] ≡ Some (w * base + worth b)
     go true e ih = ih e h
     go false e ih = cc
 
@@ -93,9 +93,9 @@ module _ (base : ℕ) (two : 2 ≤ base) where
       (lt_or_le n base)
 
   module _ (few : base ≤ 16) where
-    digits_back : (d n : ℕ) → n < base ^ d → digits base 0 (last_digits d base n) ≡ Value n
+    digits_back : (d n : ℕ) → n < base ^ d → digits base 0 (last_digits d base n) ≡ Some n
     unfolding last_digits digits
-    digits_back zero n h = let z : 0 ≡ n = omega (arith, pow-zero base) in ap Value z
+    digits_back zero n h = let z : 0 ≡ n = omega (arith, pow-zero base) in ap Some z
     digits_back (suc d) n h =
         ⊎_elim
         (λ l. rw (digit_first d base n l, worth-glyph n (omega arith), lt-ltb n base l, digits, worth-glyph n (omega arith), zero-mul, zero-add))
@@ -124,7 +124,7 @@ module _ (base : ℕ) (two : 2 ≤ base) where
     none_leads zero h = no_zero_leads (last_digits 20 base 0) (inl (rw (digit_first 19 base 0 (omega arith)) (omega arith)))
     none_leads (suc n) h = no_zero_leads (last_digits 20 base (suc n)) (inr (first_counts 20 (suc n) (omega arith) h))
 
-    pub number_back : (most n : ℕ) → 1 ≤ most → most ≤ 20 → n < base ^ most → number base most (numeral base n) ≡ Value n
+    pub number_back : (most n : ℕ) → 1 ≤ most → most ≤ 20 → n < base ^ most → number base most (numeral base n) ≡ Some n
     unfolding numeral
     number_back most n m w h =
         let t : n < base ^ 20 = omega (arith, pow-le-pow_right {n = base} (omega arith) {i = most} {j = 20} w) in

@@ -2,6 +2,7 @@
 --     settings_back, masks_back      what the sheet says before depth
 --     seeds_back, slices_back, stop_back      the list's own numbers
 -- Assumes nothing.
+use Rattle.std.specs.Prelude.{Ok}
 use mathlib.Core.Bool.{true, false}
 use mathlib.Core.Path.{◌≡◌, refl, sym, ap, ap₂, ◌∙◌}
 use mathlib.Core.List.{List, [], ◌++◌, append-nil}
@@ -20,14 +21,13 @@ use Rattle.text_order.specs.Order.{among}
 use Rattle.text_order.specs.declared.Kind.TheVariants.{Sheet}
 use Rattle.text_order.proofs.Heads.{head}
 use Rattle.text_place.specs.Places.{start}
-use Rattle.text_ending.specs.declared.Scanned.TheVariants.{Whole}
 use Rattle.text_reading.specs.Reading.{reading_of}
 use Rattle.text_readback.specs.Written.{own_entries}
 use Rattle.text_readback.proofs.Picked.{picked-append, picked_none, picked_all}
 use Rattle.text_readback.proofs.Heads.{Heading}
 use Rattle.text_readback.proofs.Whole.{cut, head-picked}
 
-module _ (s : List ℕ) (read : (reading_of Sheet s).end ≡ Whole) (stop : TestSlice) (slices : ℕ) (seeds : List ℕ) where
+module _ (s : List ℕ) (read : (reading_of Sheet s).end ≡ Ok tt) (stop : TestSlice) (slices : ℕ) (seeds : List ℕ) where
   abbrev sheet : List Entry
   sheet = (reading_of Sheet s).entries
 

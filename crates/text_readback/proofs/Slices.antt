@@ -4,6 +4,7 @@
 --     low_inside, formed-half     a well-formed slice has no bit where its first chain is unspecified, and its half is well-formed
 --     slice_back        the characters of a well-formed slice are read as the slice
 -- Assumes nothing.
+use Rattle.std.specs.Prelude.{Some}
 use mathlib.Core.Path.{◌≡◌, refl, ap, ap₂, ◌∙◌}
 use Prim.Native.Nat.{ℕ, zero, suc, ◌+◌, ◌*◌, ◌/◌, ◌%◌, ◌≤◌, ◌<◌}
 use native.Mathlib.Omega.{arith}
@@ -11,14 +12,13 @@ use lib.Bits.{and_step, and_le_r}
 use Rattle.machine_slices.specs.declared.TestSlice.{TestSlice}
 use Rattle.machine_slices.proofs.Formed.{Formed}
 use Rattle.text_characters.specs.Characters.{is_character, specified_at, bit_at, in_front, slice_of}
-use Rattle.text_characters.specs.declared.SliceSaid.TheVariants.{Slice}
 use Rattle.text_characters.proofs.Slices.{said_slice}
 use Rattle.text_write_characters.specs.Characters.{character, characters}
 
 abbrev half : TestSlice → TestSlice
 half s = record { specified = s.specified / 2; bits = s.bits / 2 }
 
-front_back : (p b : ℕ) (s : TestSlice) → p < 2 → b ≤ p → in_front (character p b) (Slice s) ≡ said_slice (s.specified * 2 + p) (s.bits * 2 + b)
+front_back : (p b : ℕ) (s : TestSlice) → p < 2 → b ≤ p → in_front (character p b) (Some s) ≡ said_slice (s.specified * 2 + p) (s.bits * 2 + b)
 unfolding character in_front is_character specified_at bit_at
 front_back zero zero s h g = refl
 front_back zero (suc b) s h g = absurd (omega arith)
@@ -34,7 +34,7 @@ module _ (n : ℕ) (s : TestSlice) (f : Formed (suc n) s) where
   formed-half : Formed n (half s)
   formed-half = record { among = omega (arith, f.among); inside = omega (arith, and_step s.bits s.specified, f.inside) }
 
-pub slice_back : (n : ℕ) (s : TestSlice) → Formed n s → slice_of (characters n s) ≡ Slice s
+pub slice_back : (n : ℕ) (s : TestSlice) → Formed n s → slice_of (characters n s) ≡ Some s
 unfolding characters slice_of
 slice_back zero s f =
     let a : 0 ≡ s.specified = omega (arith, f.among) in

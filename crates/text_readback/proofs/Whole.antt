@@ -7,6 +7,7 @@
 --     chains_counted      and as the chains line says
 --     read-back       the reading of the whole list
 -- Assumes nothing.
+use Rattle.std.specs.Prelude.{Ok}
 use mathlib.Core.Bool.{true, false}
 use mathlib.Core.Path.{◌≡◌, refl, sym, ap, subst, ◌∙◌}
 use mathlib.Core.List.{List, [], ◌∷◌, ◌++◌, append-nil}
@@ -38,7 +39,6 @@ use Rattle.text_place.specs.declared.Place.{Place}
 use Rattle.text_place.proofs.Runs.{run_none}
 use Rattle.text_ranges.specs.Ranges.{outside}
 use Rattle.text_reading.specs.Reading.{reading_of}
-use Rattle.text_ending.specs.declared.Scanned.TheVariants.{Whole}
 use Rattle.text_write_numbers.specs.Lines.{number_line, number_lines}
 use Rattle.text_write_characters.specs.Characters.{slice_line}
 use Rattle.text_write_list.specs.SeedList.{list_text}
@@ -74,7 +74,7 @@ module _ (stop : TestSlice) (slices : ℕ) (seeds : List ℕ) where
       (omega (arith, (set-within slices w.total).1), refl) _ _
       (seeds_read seeds (place_at key.Slices 1 p.cells p.chains) refl refl (omega (arith, w.few)) w.words))
 
-module _ (s : List ℕ) (read : (reading_of Sheet s).end ≡ Whole) where
+module _ (s : List ℕ) (read : (reading_of Sheet s).end ≡ Ok tt) where
   abbrev sheet : List Entry
   sheet = (reading_of Sheet s).entries
 
@@ -95,7 +95,7 @@ module _ (s : List ℕ) (read : (reading_of Sheet s).end ≡ Whole) where
   chains_counted n e = sym chains_said ∙ cut.said ∙ ap (last_of 0) (sym (head-picked key.Chains refl) ∙ e)
 
   pub read_back : (stop : TestSlice) (slices : ℕ) (seeds : List ℕ) → Printable (length (masks_of sheet)) stop slices seeds
-      → reading_of SeedList (list_text (lines_before key.Depth (split s)) (length (masks_of sheet)) stop slices seeds) ≡ record { entries = cut.above ++ own_entries stop slices seeds; end = Whole }
+      → reading_of SeedList (list_text (lines_before key.Depth (split s)) (length (masks_of sheet)) stop slices seeds) ≡ record { entries = cut.above ++ own_entries stop slices seeds; end = Ok tt }
   unfolding reading_of list_text
   read_back stop slices seeds p =
       cut.reads _ (own_entries stop slices seeds) (subst (λ n. Reads SeedList cut.place (slice_line n (name key.Stop) stop ++ (number_line 10 (name key.Slices) slices ++ number_lines 16 (name key.Seed) seeds)) (own_entries stop slices seeds)) chains_said (own-reads stop slices seeds cut.place cut.next cut.fresh (subst (λ n. Printable n stop slices seeds) (sym chains_said) p))) 1

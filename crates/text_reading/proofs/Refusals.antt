@@ -2,6 +2,8 @@
 --     EndsBy P e          the end e is whole, or a refusal whose number has P
 --     reading_refused     so ends every reading
 -- Assumes nothing.
+use Rattle.std.specs.Prelude.{Err, Ok, Result}
+use Rattle.refusal_causes.specs.declared.Refusal.{Refusal}
 use mathlib.Core.Bool.{Bool, true, false}
 use mathlib.Core.Path.{◌≡◌, refl}
 use mathlib.Core.List.{List, [], ◌∷◌}
@@ -18,14 +20,12 @@ use Rattle.text_order.specs.Order.{may_end}
 use Rattle.text_order.specs.declared.Kind.{Kind}
 use Rattle.text_ranges.specs.Ranges.{saying}
 use Rattle.text_ending.specs.Ending.{refused_at, end_of}
-use Rattle.text_ending.specs.declared.Scanned.{Scanned}
-use Rattle.text_ending.specs.declared.Scanned.TheVariants as scanned
 use Rattle.text_ending.proofs.Ends.{end_whole, end_early}
 use Rattle.text_reading.specs.Reading.{onward, reading, reading_of}
 
-abbrev pub EndsBy : (ℕ → Type 0) → Scanned → Type 0
-EndsBy P scanned.Whole = Unit {0}
-EndsBy P (scanned.Refused r) = P r.number
+abbrev pub EndsBy : (ℕ → Type 0) → Result (Unit {0}) Refusal → Type 0
+EndsBy P (Ok tt) = Unit {0}
+EndsBy P (Err r) = P r.number
 
 module _ (P : ℕ → Type 0) (line-number : (c : LineCause) (n : ℕ) → P (refused_at c n).number) (kind : Kind) where
   end_refused : (p : Place) (n : ℕ) → EndsBy P (end_of kind p n)

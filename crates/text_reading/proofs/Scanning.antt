@@ -6,6 +6,8 @@
 --     left_end, left_unended, left_refused     no line is left, the last one has no line feed, or the line is refused
 --     left_step        after a line that is accepted
 -- Assumes nothing.
+use Rattle.std.specs.Prelude.{Err, Result}
+use Rattle.refusal_causes.specs.declared.Refusal.{Refusal}
 use mathlib.Core.Path.{◌≡◌, refl, sym, ap, ◌∙◌}
 use mathlib.Core.List.{List}
 use Prim.Native.Nat.{ℕ, ◌+◌, ◌-◌, ◌≤◌, ◌<◌}
@@ -27,8 +29,6 @@ use Rattle.text_place.proofs.Runs.{run-most}
 use Rattle.text_order.specs.declared.Kind.{Kind}
 use Rattle.text_ranges.specs.Ranges.{saying}
 use Rattle.text_ending.specs.Ending.{refused_at, refusal_of_line, end_of}
-use Rattle.text_ending.specs.declared.Scanned.{Scanned}
-use Rattle.text_ending.specs.declared.Scanned.TheVariants.{Refused}
 use Rattle.text_reading.specs.Reading.{Reading, stops, told, reading, reading_of}
 
 pub record Left (kind : Kind) (s l₀ l : List ℕ) (p : Place) (n at i : ℕ) : Type 0 where
@@ -38,7 +38,7 @@ pub record Left (kind : Kind) (s l₀ l : List ℕ) (p : Place) (n at i : ℕ) :
   pub ends : (reading kind p n (split (drop at s))).end ≡ (reading_of kind s).end
   pub list : sets l i (flat (reading kind p n (split (drop at s))).entries) ≡ sets l₀ 0 (flat (reading_of kind s).entries)
 
-abbrev pub Ends : Kind → List ℕ → List ℕ → List ℕ → Scanned → Type 0
+abbrev pub Ends : Kind → List ℕ → List ℕ → List ℕ → Result (Unit {0}) Refusal → Type 0
 Ends kind s l₀ l r = (r ≡ (reading_of kind s).end) × (l ≡ sets l₀ 0 (flat (reading_of kind s).entries))
 
 module _ (kind : Kind) (s l₀ : List ℕ) where
@@ -50,7 +50,7 @@ module _ (kind : Kind) (s l₀ : List ℕ) where
     pub left_long : length l ≡ length l₀
     left_long = sym (length-sets l i (flat (reading kind p n (split (drop at s))).entries)) ∙ ap length w.list ∙ length-sets l₀ 0 (flat (reading_of kind s).entries)
 
-    left-stops : (r : Scanned) → reading kind p n (split (drop at s)) ≡ stops r → Ends kind s l₀ l r
+    left-stops : (r : Result (Unit {0}) Refusal) → reading kind p n (split (drop at s)) ≡ stops r → Ends kind s l₀ l r
     unfolding flat
     left-stops r e = (sym (ap (λ (x : Reading). x.end) e) ∙ w.ends, rw e at w.list)
 
@@ -59,12 +59,12 @@ module _ (kind : Kind) (s l₀ : List ℕ) where
     left_end g = left-stops (end_of kind p n) (rw (drop_of_length-le s g))
 
     module _ (e : ℕ) (q : e ≡ at + span (drop at s)) where
-      pub left_unended : at < length s → length s ≤ e → Ends kind s l₀ l (Refused (refused_at Form n))
+      pub left_unended : at < length s → length s ≤ e → Ends kind s l₀ l (Err (refused_at Form n))
       unfolding reading
       left_unended g o = left-stops _ (rw (split-rest_at s at e q w.here o, drop-cons s at 0 g))
 
       module _ (o : e < length s) (said : Line) (d : said ≡ saying kind p (take (e - at) (drop at s))) where
-        pub left_refused : (c : LineCause) → said ≡ lines.Refused c → Ends kind s l₀ l (Refused (refusal_of_line said n))
+        pub left_refused : (c : LineCause) → said ≡ lines.Refused c → Ends kind s l₀ l (Err (refusal_of_line said n))
         unfolding reading refusal_of_line
         left_refused c t = rw t (left-stops _ (rw (split_line_at s at e q o, ← d, t)))
 

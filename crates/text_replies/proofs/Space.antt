@@ -14,8 +14,7 @@ use Rattle.refusal_causes.proofs.Outcome.{fill-whole}
 use Rattle.text_write_refusal.specs.Refused.{refused_text}
 use Rattle.text_write_refusal.proofs.Lengths.{refused_length}
 use Rattle.text_replies.specs.Replies.{Reply, text, refused, printed}
-use Rattle.text_replies.specs.Calls.{answered, called, Shown, bytes_of, shown}
-use Rattle.text_replies.specs.declared.Answer.{Answer}
+use Rattle.text_replies.specs.Calls.{answered, called, Shown, bytes_of, shown, Answer}
 
 abbrev pub Within : ℕ → Reply → Type 0
 Within most (text bs n) = length bs ≤ most

@@ -2,8 +2,12 @@
 --     quoted         it has the stop slice of the sheet and as many seeds as the answer says, and no covering list is shorter
 --     round_trip     read back and expanded, it gives as many slices as the sheet has, each agreeing with the sheet's
 -- Assumes nothing.
+use Rattle.refusal_causes.specs.declared.Cause.{Cause}
+use Rattle.text_replies.specs.Calls.{written}
+use Rattle.encoder_meaning.specs.declared.Encoded.{Encoded}
+use Rattle.encoder_meaning.specs.Encoding.{seeds_with}
+use Rattle.std.specs.Prelude.{Err, Ok, Result, Some}
 use mathlib.Core.Path.{◌≡◌, refl, sym, ap, ◌∙◌}
-use mathlib.Core.Option.{some}
 use mathlib.Core.List.{List}
 use Prim.Native.Nat.{ℕ, ◌≤◌}
 use native.Mathlib.Omega.{arith}
@@ -22,14 +26,10 @@ use Rattle.refusal_lengths.proofs.Lengths.{set-within}
 use Rattle.refusal_checks.proofs.Formed.{set-formed}
 use Rattle.text_keys.specs.declared.Key.TheVariants as key
 use Rattle.encoder_cubes.specs.Cubes.{CubesOutcome, encode_cubes}
-use Rattle.encoder_meaning.specs.declared.Encoded.{Encoded}
-use Rattle.encoder_meaning.specs.declared.Encoded.TheVariants as encodings
 use Rattle.text_reading.specs.Reading.{reading_of}
 use Rattle.text_entries.specs.Said.{masks_of, number_for, settings_of}
 use Rattle.text_spelling.proofs.Head.{head_spelt}
 use Rattle.text_order.specs.declared.Kind.TheVariants as kinds
-use Rattle.text_ending.specs.declared.Scanned.{Scanned}
-use Rattle.text_ending.specs.declared.Scanned.TheVariants as scanned
 use Rattle.text_write_slices.specs.Slices.{slice_lines}
 use Rattle.text_write_list.specs.SeedList.{list_text}
 use Rattle.text_readback.specs.Written.{Printable}
@@ -47,7 +47,7 @@ use Rattle.text_roundtrip.proofs.Accepted.{cubes_accepted}
 
 -- ---- the printed list, read and expanded
 
-module _ (s : List ℕ) (read : (reading_of kinds.Sheet s).end ≡ scanned.Whole) (stop : TestSlice) (slices : ℕ) (seeds : List ℕ) where
+module _ (s : List ℕ) (read : (reading_of kinds.Sheet s).end ≡ Ok tt) (stop : TestSlice) (slices : ℕ) (seeds : List ℕ) where
   -- The list is expanded as what the sheet says before depth, and what was written.
   list_expands : Printable (length (masks_of (sheet_of s))) stop slices seeds
       → expand_reply (list_text (head_of (sheet_of s)) (length (masks_of (sheet_of s))) stop slices seeds) ≡ expanded (settings_of (sheet_of s)) (masks_of (sheet_of s)) stop slices seeds
@@ -71,18 +71,18 @@ text_is bs list m n e = cc
 count_is : (bs list : List ℕ) (m n : ℕ) → text bs m ≡ text list n → m ≡ n
 count_is bs list m n e = cc
 
-some_is : (a b : TestSlice) → some a ≡ some b → a ≡ b
+some_is : (a b : TestSlice) → Some a ≡ Some b → a ≡ b
 some_is a b e = cc
 
-concluded_text : (end : Scanned) (r : Reply) (list : List ℕ) (n : ℕ) → concluded end r ≡ text list n → r ≡ text list n
+concluded_text : (end : Result (Unit {0}) Refusal) (r : Reply) (list : List ℕ) (n : ℕ) → concluded end r ≡ text list n → r ≡ text list n
 unfolding concluded
-concluded_text scanned.Whole r list n e = e
-concluded_text (scanned.Refused c) r list n e = absurd (refused_text_lem c list n e)
+concluded_text (Ok tt) r list n e = e
+concluded_text (Err c) r list n e = absurd (refused_text_lem c list n e)
 
-concluded-whole : (end : Scanned) (r : Reply) (list : List ℕ) (n : ℕ) → concluded end r ≡ text list n → end ≡ scanned.Whole
+concluded-whole : (end : Result (Unit {0}) Refusal) (r : Reply) (list : List ℕ) (n : ℕ) → concluded end r ≡ text list n → end ≡ Ok tt
 unfolding concluded
-concluded-whole scanned.Whole r list n e = refl
-concluded-whole (scanned.Refused c) r list n e = absurd (refused_text_lem c list n e)
+concluded-whole (Ok tt) r list n e = refl
+concluded-whole (Err c) r list n e = absurd (refused_text_lem c list n e)
 
 module _ (s : List ℕ) where
   -- What the sheet says, and the outcome of its encoding.
@@ -104,7 +104,7 @@ module _ (s : List ℕ) where
   abbrev o : CubesOutcome
   o = encode_cubes g masks (number_for key.Depth (sheet_of s)) ps bs lent
 
-  seeds_give_back : (reading_of kinds.Sheet s).end ≡ scanned.Whole → (stop : TestSlice) (n : ℕ) → o.answer ≡ encodings.Seeds stop n → GivesBack s (list_text head (length masks) stop (length ps) (take n o.buffer))
+  seeds_give_back : (reading_of kinds.Sheet s).end ≡ Ok tt → (stop : TestSlice) (n : ℕ) → o.answer ≡ seeds_with stop n → GivesBack s (list_text head (length masks) stop (length ps) (take n o.buffer))
   unfolding expanded
   seeds_give_back read stop n e =
       let a = cubes_accepted g masks _ ps bs lent stop n e in
@@ -121,23 +121,23 @@ module _ (s : List ℕ) where
       }
 
   module _ (list : List ℕ) (n : ℕ) where
-    given_back : (reading_of kinds.Sheet s).end ≡ scanned.Whole → (a : Encoded) → o.answer ≡ a → list_reply head (length masks) (length ps) o.buffer a ≡ text list n → GivesBack s list
+    given_back : (reading_of kinds.Sheet s).end ≡ Ok tt → (a : Result Encoded Cause) → o.answer ≡ a → list_reply head (length masks) (length ps) o.buffer a ≡ text list n → GivesBack s list
     unfolding list_reply
-    given_back read (encodings.Seeds stop m) q e = rw (← (text_is _ list m n e)) (seeds_give_back read stop m q)
-    given_back read (encodings.Refused c) q e = absurd (refused_text_lem _ list n e)
+    given_back read (Ok l) q e = rw (← (text_is _ list l.seeds n e)) (seeds_give_back read l.stop l.seeds q)
+    given_back read (Err c) q e = absurd (refused_text_lem _ list n e)
 
-    module _ (stop : TestSlice) (its : stop_for (length masks) (paired ps bs) ≡ some stop) where
-      seeds_quoted : (st : TestSlice) (m : ℕ) → o.answer ≡ encodings.Seeds st m → list_text head (length masks) st (length ps) (take m o.buffer) ≡ list → m ≡ n → Quoted s st list n
+    module _ (stop : TestSlice) (its : stop_for (length masks) (paired ps bs) ≡ Some stop) where
+      seeds_quoted : (st : TestSlice) (m : ℕ) → o.answer ≡ seeds_with st m → list_text head (length masks) st (length ps) (take m o.buffer) ≡ list → m ≡ n → Quoted s st list n
       seeds_quoted st m q t k =
           let a = cubes_accepted g masks _ ps bs lent st m q in
           record { seeds = take m o.buffer; printed = sym t; count = a.count ∙ k; stopped = a.stopped; shortest = a.shortest }
 
-      list_quoted : (a : Encoded) → o.answer ≡ a → list_reply head (length masks) (length ps) o.buffer a ≡ text list n → Quoted s stop list n
+      list_quoted : (a : Result Encoded Cause) → o.answer ≡ a → list_reply head (length masks) (length ps) o.buffer a ≡ text list n → Quoted s stop list n
       unfolding list_reply
-      list_quoted (encodings.Seeds st m) q e =
-          let a = cubes_accepted g masks _ ps bs lent st m q in
-          rw (← (some_is st stop (sym a.stopped ∙ its))) (seeds_quoted st m q (text_is _ list m n e) (count_is _ list m n e))
-      list_quoted (encodings.Refused c) q e = absurd (refused_text_lem _ list n e)
+      list_quoted (Ok l) q e =
+          let a = cubes_accepted g masks _ ps bs lent l.stop l.seeds q in
+          rw (← (some_is l.stop stop (sym a.stopped ∙ its))) (seeds_quoted l.stop l.seeds q (text_is _ list l.seeds n e) (count_is _ list l.seeds n e))
+      list_quoted (Err c) q e = absurd (refused_text_lem _ list n e)
 
       pub quoted : encode_reply s ≡ text list n → Quoted s stop list n
       unfolding reply_to sheet_reply reply_under encoded

@@ -3,8 +3,7 @@
 --     set_of s             its test slices
 --     Quoted s stop list n     the list is that of the sheet s with its stop slice and n seeds, than which no covering list is shorter
 --     GivesBack s list    expanding the list is accepted with as many slices as the sheet s has, and slice i agrees with slice line i
-use Rattle.std.specs.Prelude.{◌≡◌, true, List, ℕ, ◌<◌, length, get_or}
-use Rattle.std.proofs.Math.Option.{some}
+use Rattle.std.specs.Prelude.{◌≡◌, true, List, ℕ, ◌<◌, length, get_or, Some}
 use Rattle.machine_settings.specs.Machine.{machine}
 use Rattle.machine_slices.specs.declared.TestSlice.{TestSlice}
 use Rattle.machine_slices.specs.Slices.{agrees, paired}
@@ -31,7 +30,7 @@ pub record Quoted (s : List ℕ) (stop : TestSlice) (list : List ℕ) (n : ℕ) 
   pub seeds : List ℕ
   pub printed : list ≡ list_text (head_of (sheet_of s)) (length (masks_of (sheet_of s))) stop (length (specified_of (sheet_of s))) seeds
   pub count : length seeds ≡ n
-  pub stopped : stop_for (length (masks_of (sheet_of s))) (set_of s) ≡ some stop
+  pub stopped : stop_for (length (masks_of (sheet_of s))) (set_of s) ≡ Some stop
   pub shortest : Shortest (machine (settings_of (sheet_of s)) (masks_of (sheet_of s))) (rules (settings_of (sheet_of s)) stop) (set_of s) seeds
 
 pub record GivesBack (s list : List ℕ) : Type 0 where

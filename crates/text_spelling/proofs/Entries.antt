@@ -6,6 +6,7 @@
 --     said-written      a line that is accepted is as it would be written
 --     through_line, through_end, text_through      one line more, the end of a text, and every text that is read to its end
 -- Assumes nothing.
+use Rattle.std.specs.Prelude.{Ok}
 use mathlib.Core.Bool.{Bool, true, false}
 use mathlib.Core.Path.{◌≡◌, refl, sym, ap, ◌∙◌}
 use mathlib.Core.List.{List, [], ◌∷◌, ◌++◌}
@@ -26,7 +27,6 @@ use Rattle.text_ranges.specs.Ranges.{saying}
 use Rattle.text_ranges.proofs.Accepting.{Accepted, line_accepted}
 use Rattle.text_ranges.proofs.Keys.{said-formed, said-starts}
 use Rattle.text_ending.specs.Ending.{end_of}
-use Rattle.text_ending.specs.declared.Scanned.TheVariants.{Whole}
 use Rattle.text_ending.proofs.Ends.{end_early, refused_whole}
 use Rattle.text_reading.specs.Reading.{Reading, onward, reading}
 use Rattle.text_readback.specs.Written.{written}
@@ -72,7 +72,7 @@ module _ (kind : Kind) (k : Key) (p : Place) where
         go true q = before_key k l t (begins ∙ q) ∙ sym (written_key k p e es q)
         go false q = before_line k l t (begins ∙ q) ∙ ap (λ x. l ++ (feed ∷ x)) h.before ∙ said-written _ ∙ sym (written_line k p e es q)
 
-  through_end : (n : ℕ) → end_of kind p n ≡ Whole → Through kind k p (rest []) []
+  through_end : (n : ℕ) → end_of kind p n ≡ Ok tt → Through kind k p (rest []) []
   unfolding lines_before written_before
   through_end n e = record { order = go (may_end kind p) refl; before = refl }
     where
@@ -80,7 +80,7 @@ module _ (kind : Kind) (k : Key) (p : Place) where
       go true m = m
       go false m = absurd (refused_whole _ (sym (end_early kind p n m) ∙ e))
 
-pub text_through : (kind : Kind) (k : Key) (t : Text) (p : Place) (n : ℕ) → (reading kind p n t).end ≡ Whole → Through kind k p t (reading kind p n t).entries
+pub text_through : (kind : Kind) (k : Key) (t : Text) (p : Place) (n : ℕ) → (reading kind p n t).end ≡ Ok tt → Through kind k p t (reading kind p n t).entries
 unfolding reading
 text_through kind k (rest []) p n e = through_end kind k p n e
 text_through kind k (rest (b ∷ o)) p n e = absurd (refused_whole _ e)
@@ -89,6 +89,6 @@ text_through kind k (line l t) p n e = go (saying kind p l) refl e (λ f. text_t
     next : Entry → Reading
     next f = reading kind (moved p f.key f.first) (n + 1) t
 
-    go : (a : Line) → saying kind p l ≡ a → (onward a next n).end ≡ Whole → ((f : Entry) → (next f).end ≡ Whole → Through kind k (moved p f.key f.first) t (next f).entries) → Through kind k p (line l t) (onward a next n).entries
+    go : (a : Line) → saying kind p l ≡ a → (onward a next n).end ≡ Ok tt → ((f : Entry) → (next f).end ≡ Ok tt → Through kind k (moved p f.key f.first) t (next f).entries) → Through kind k p (line l t) (onward a next n).entries
     go (lines.Said f) s e ih = through_line kind k p l f s t (next f).entries (ih f e)
     go (lines.Refused c) s e ih = absurd (refused_whole _ e)

@@ -6,6 +6,8 @@
 --     keyed_spelt, formed_spelt       so does a line with a key, and every line
 --     line_spelt           it is the name of its key and the value, as they would be written
 -- Assumes nothing.
+use Rattle.std.specs.Prelude.{None, Option, Some}
+use Rattle.machine_slices.specs.declared.TestSlice.{TestSlice}
 use mathlib.Core.Logic.{⊎_elim}
 use mathlib.Core.Path.{◌≡◌, refl, sym, ap, ◌∙◌}
 use mathlib.Core.List.{List, ◌++◌}
@@ -14,19 +16,13 @@ use native.Mathlib.Omega.{arith}
 use lib.ListN.{length, drop}
 use Rattle.words_bounded.proofs.Tests.{lt_or_le, eq_or_not}
 use Rattle.text_numbers.specs.Numbers.{number}
-use Rattle.text_numbers.specs.declared.Numeral.{Numeral}
-use Rattle.text_numbers.specs.declared.Numeral.TheVariants as numeral
 use Rattle.text_characters.specs.Characters.{slice_of}
-use Rattle.text_characters.specs.declared.SliceSaid.{SliceSaid}
-use Rattle.text_characters.specs.declared.SliceSaid.TheVariants as said
 use Rattle.text_keys.specs.Keys.{rows, name, notation, longest}
 use Rattle.text_keys.specs.declared.Key.{Key}
 use Rattle.text_keys.specs.declared.LineCause.TheVariants.{Form}
 use Rattle.text_keys.specs.declared.Notation.{Notation}
 use Rattle.text_keys.specs.declared.Notation.TheVariants.{Decimal, Hexadecimal, Chainwise}
 use Rattle.text_key_of.specs.Begins.{key_of}
-use Rattle.text_key_of.specs.declared.Named.{Named}
-use Rattle.text_key_of.specs.declared.Named.TheVariants.{Known, Unknown}
 use Rattle.text_lines.specs.Form.{entry, numbered, sliced, characters, valued, keyed, formed}
 use Rattle.text_lines.specs.declared.Entry.{Entry}
 use Rattle.text_lines.specs.declared.Line.TheVariants.{Said}
@@ -39,15 +35,15 @@ use Rattle.text_spelling.proofs.Slices.{slice_spelt}
 use Rattle.text_key_of.proofs.Names.{name-front}
 
 module _ (k : Key) (e : Entry) where
-  numbered-said : (d : Numeral) → numbered k d ≡ Said e → (e.key ≡ k) × (d ≡ numeral.Value e.first)
+  numbered-said : (d : Option ℕ) → numbered k d ≡ Said e → (e.key ≡ k) × (d ≡ Some e.first)
   unfolding numbered
-  numbered-said numeral.Nothing q = absurd (refused_said Form e q)
-  numbered-said (numeral.Value v) q = rw (sym (said_inj (entry k v 0) e q)) (refl, refl)
+  numbered-said None q = absurd (refused_said Form e q)
+  numbered-said (Some v) q = rw (sym (said_inj (entry k v 0) e q)) (refl, refl)
 
-  sliced-said : (d : SliceSaid) → sliced k d ≡ Said e → (e.key ≡ k) × (d ≡ said.Slice (slice_in e))
+  sliced-said : (d : Option TestSlice) → sliced k d ≡ Said e → (e.key ≡ k) × (d ≡ Some (slice_in e))
   unfolding sliced
-  sliced-said said.Nothing q = absurd (refused_said Form e q)
-  sliced-said (said.Slice s) q = rw (sym (said_inj (entry k s.specified s.bits) e q)) (refl, refl)
+  sliced-said None q = absurd (refused_said Form e q)
+  sliced-said (Some s) q = rw (sym (said_inj (entry k s.specified s.bits) e q)) (refl, refl)
 
   module _ (chains : ℕ) (l : List ℕ) where
     characters-said : characters chains k l ≡ Said e → (length l ≡ chains) × (sliced k (slice_of l) ≡ Said e)
@@ -74,20 +70,20 @@ module _ (k : Key) (e : Entry) where
 
 module _ (chains : ℕ) (l : List ℕ) (e : Entry) where
   abbrev Spells : Type 0
-  Spells = (key_of rows l ≡ Known e.key) × (value chains e ≡ drop (length (name e.key)) l)
+  Spells = (key_of rows l ≡ Some e.key) × (value chains e ≡ drop (length (name e.key)) l)
 
-  keyed_spelt : (k : Key) → key_of rows l ≡ Known k → keyed chains k l ≡ Said e → length l < longest k → Spells
+  keyed_spelt : (k : Key) → key_of rows l ≡ Some k → keyed chains k l ≡ Said e → length l < longest k → Spells
   keyed_spelt k u q h =
       let s = valued_spelt k e chains (drop (length (name k)) l) (sym (keyed-value chains k l h) ∙ q) in
       let j = sym s.0 in
-      (u ∙ ap Known j, s.1 ∙ ap (λ i. drop (length (name i)) l) j)
+      (u ∙ ap Some j, s.1 ∙ ap (λ i. drop (length (name i)) l) j)
 
   formed_spelt : formed chains l ≡ Said e → Spells
   formed_spelt q = go (key_of rows l) refl
     where
-      go : (n : Named) → key_of rows l ≡ n → Spells
-      go Unknown u = absurd (refused_said Form e (sym (formed_unknown chains l u) ∙ q))
-      go (Known k) u =
+      go : (n : Option Key) → key_of rows l ≡ n → Spells
+      go None u = absurd (refused_said Form e (sym (formed_unknown chains l u) ∙ q))
+      go (Some k) u =
           let r = sym (formed_known chains k l u) ∙ q in
           ⊎_elim (keyed_spelt k u r) (λ h. absurd (refused_said Form e (sym (keyed_long chains k l h) ∙ r))) (lt_or_le (length l) (longest k))
 

@@ -18,6 +18,7 @@
 --     head-after, head-written     the entries of a sheet, where there is a mask for each chain
 --     head_spelt          a sheet that is read to its end
 -- Assumes nothing.
+use Rattle.std.specs.Prelude.{Ok}
 use mathlib.Core.Bool.{Bool, true, false, not, ◌||◌}
 use mathlib.Core.Path.{◌≡◌, refl, sym, ap, subst, ◌∙◌}
 use mathlib.Core.List.{List, [], ◌∷◌, ◌++◌, append_assoc, append-nil}
@@ -44,7 +45,6 @@ use Rattle.text_order.proofs.Standing.{stand_chain, stand_after, among_one}
 use Rattle.text_order.proofs.Heads.{optional_keys}
 use Rattle.text_place.specs.Places.{start, run_of, moved}
 use Rattle.text_place.specs.declared.Place.{Place}
-use Rattle.text_ending.specs.declared.Scanned.TheVariants.{Whole}
 use Rattle.text_reading.specs.Reading.{reading_of}
 use Rattle.text_write_numbers.specs.Lines.{number_line, number_lines}
 use Rattle.text_write_head.specs.Head.{chains_text, head_text}
@@ -243,7 +243,7 @@ head-written es o count =
     head-after a.first b.first c.first a.second b.second c.second c.others c.order
     es (a.whole ∙ ap (λ l. entry key.Cells a.first a.second ∷ l) (b.whole ∙ ap (λ l. entry key.Taps b.first b.second ∷ l) c.whole)) count
 
-pub head_spelt : (s : List ℕ) → (reading_of Sheet s).end ≡ Whole → lines_before key.Depth (split s) ≡ head_text (settings_of (reading_of Sheet s).entries) (masks_of (reading_of Sheet s).entries) (inverts_of (reading_of Sheet s).entries) (windows_of (reading_of Sheet s).entries)
+pub head_spelt : (s : List ℕ) → (reading_of Sheet s).end ≡ Ok tt → lines_before key.Depth (split s) ≡ head_text (settings_of (reading_of Sheet s).entries) (masks_of (reading_of Sheet s).entries) (inverts_of (reading_of Sheet s).entries) (windows_of (reading_of Sheet s).entries)
 unfolding reading_of
 head_spelt s e =
     let t = text_through Sheet key.Depth (split s) start 1 e in

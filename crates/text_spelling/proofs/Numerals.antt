@@ -7,6 +7,7 @@
 --     first_spelt, whole_spelt        the first digit, and all
 --     number_spelt      what is read as a number is its numeral
 -- Assumes nothing.
+use Rattle.std.specs.Prelude.{None, Some}
 use mathlib.Core.Bool.{Bool, true, false}
 use mathlib.Core.Logic.{⊎_elim}
 use mathlib.Core.Path.{◌≡◌, refl, sym, ap, ◌∙◌}
@@ -21,12 +22,11 @@ use lib.ListN.{length}
 use Rattle.words_bounded.specs.Bounded.{within}
 use Rattle.words_bounded.proofs.Tests.{lt_or_le, within_yes}
 use Rattle.text_numbers.specs.Numbers.{worth, digits, leading_zero, number}
-use Rattle.text_numbers.specs.declared.Numeral.TheVariants.{Value, Nothing}
 use Rattle.text_numbers.proofs.Numerals.{number-length, number_zero, number_digits}
 use Rattle.text_write_numbers.specs.Numerals.{glyph, last_digits, numeral}
 use Rattle.text_readback.proofs.Numerals.{glyph-low, glyph-high, worth-low, worth-high, digit_first, digits_more}
 
-nothing_value : (v : ℕ) → Nothing ≡ Value v → ⊥
+nothing_value : (v : ℕ) → None ≡ Some v → ⊥
 nothing_value v e = let z : ◌≡◌ {A = ℕ} 0 1 = cc in omega arith
 
 worth-none : (b : ℕ) → within 48 57 b ≡ false → within 97 102 b ≡ false → worth b ≡ 16
@@ -45,18 +45,18 @@ worth_some : (b : ℕ) → worth b < 16 → (b ≡ 48 → ⊥) → 1 ≤ worth b
 worth_some b h n = ⊎_elim (λ z. absurd (n (omega (arith, glyph-low (worth b) (omega arith), glyph-worth b h)))) (λ s. s) (lt_or_le (worth b) 1)
 
 module _ (base : ℕ) where
-  digits-front : (v w b : ℕ) (l : List ℕ) → digits base v (b ∷ l) ≡ Value w → (worth b < base) × (digits base (v * base + worth b) l ≡ Value w)
+  digits-front : (v w b : ℕ) (l : List ℕ) → digits base v (b ∷ l) ≡ Some w → (worth b < base) × (digits base (v * base + worth b) l ≡ Some w)
   unfolding digits
   digits-front v w b l e = go (ltb (worth b) base) refl e
     where
-      go : (t : Bool) → ltb (worth b) base ≡ t → elim t [ true ↦ digits base (v * base + worth b) l | false ↦ Nothing ] ≡ Value w → (worth b < base) × (digits base (v * base + worth b) l ≡ Value w)
+      go : (t : Bool) → ltb (worth b) base ≡ t → elim t [ true ↦ digits base (v * base + worth b) l | false ↦ None ] ≡ Some w → (worth b < base) × (digits base (v * base + worth b) l ≡ Some w)
       go true t e = (ltb-true (worth b) base t, e)
       go false t e = absurd (nothing_value w e)
 
-  number_inside : (most : ℕ) (l : List ℕ) (v : ℕ) → number base most l ≡ Value v → (within 1 most (length l) ≡ true) × (leading_zero l ≡ false) × (digits base 0 l ≡ Value v)
+  number_inside : (most : ℕ) (l : List ℕ) (v : ℕ) → number base most l ≡ Some v → (within 1 most (length l) ≡ true) × (leading_zero l ≡ false) × (digits base 0 l ≡ Some v)
   number_inside most l v e = go (within 1 most (length l)) refl (leading_zero l) refl
     where
-      go : (s : Bool) → within 1 most (length l) ≡ s → (t : Bool) → leading_zero l ≡ t → (within 1 most (length l) ≡ true) × (leading_zero l ≡ false) × (digits base 0 l ≡ Value v)
+      go : (s : Bool) → within 1 most (length l) ≡ s → (t : Bool) → leading_zero l ≡ t → (within 1 most (length l) ≡ true) × (leading_zero l ≡ false) × (digits base 0 l ≡ Some v)
       go false s t z = absurd (nothing_value v (sym (number-length base most l s) ∙ e))
       go true s true z = absurd (nothing_value v (sym (number_zero base most l s z) ∙ e))
       go true s false z = (s, z, sym (number_digits base most l s z) ∙ e)
@@ -67,7 +67,7 @@ module _ (base : ℕ) where
         digits_more d base (v * base + worth b) (omega (arith, mul-le-mul_right base s))
         ∙ rw (digits_div v h, digits_mod v h, glyph-worth b (omega arith))
 
-    digits_spelt : (l : List ℕ) (d n v w : ℕ) → d + length l ≡ n → 1 ≤ v → digits base v l ≡ Value w → last_digits n base w ≡ last_digits d base v ++ l
+    digits_spelt : (l : List ℕ) (d n v w : ℕ) → d + length l ≡ n → 1 ≤ v → digits base v l ≡ Some w → last_digits n base w ≡ last_digits d base v ++ l
     unfolding digits
     digits_spelt [] d n v w q s e = let m : n ≡ d = omega arith in let u : w ≡ v = cc in rw (m, u) (sym (append-nil (last_digits d base v)))
     digits_spelt (b ∷ l) d n v w q s e =
@@ -79,7 +79,7 @@ module _ (base : ℕ) where
     first_spelt : (d b : ℕ) → worth b < base → last_digits (suc d) base (0 * base + worth b) ≡ b ∷ []
     first_spelt d b h = rw (zero-mul, zero-add) (digit_first d base (worth b) h ∙ ap (λ x. x ∷ []) (glyph-worth b (omega arith)))
 
-    whole_spelt : (l : List ℕ) (v : ℕ) → 1 ≤ length l → length l ≤ 20 → leading_zero l ≡ false → digits base 0 l ≡ Value v → last_digits 20 base v ≡ l
+    whole_spelt : (l : List ℕ) (v : ℕ) → 1 ≤ length l → length l ≤ 20 → leading_zero l ≡ false → digits base 0 l ≡ Some v → last_digits 20 base v ≡ l
     unfolding digits leading_zero
     whole_spelt [] v m n z e = absurd (omega arith)
     whole_spelt (b ∷ []) v m n z e = let f = digits-front 0 v b [] e in let u : v ≡ 0 * base + worth b = cc in rw u (first_spelt 19 b f.0)
@@ -89,7 +89,7 @@ module _ (base : ℕ) where
         digits_spelt (c ∷ l) (suc (18 - length l)) 20 (0 * base + worth b) v (omega arith) (omega arith) f.1
         ∙ ap (λ x. x ++ (c ∷ l)) (first_spelt (18 - length l) b f.0)
 
-    pub number_spelt : (most : ℕ) → most ≤ 20 → (l : List ℕ) (v : ℕ) → number base most l ≡ Value v → numeral base v ≡ l
+    pub number_spelt : (most : ℕ) → most ≤ 20 → (l : List ℕ) (v : ℕ) → number base most l ≡ Some v → numeral base v ≡ l
     unfolding numeral
     number_spelt most h l v e =
         let i = number_inside most l v e in

@@ -1,32 +1,56 @@
 -- The first line of a text.
---     span-feed, span_go, span_end     of a loop that goes up: a line feed, another byte, and the end (`span`)
+--     span-step, span-position         the bytes before the first line feed (`span`), as std counts them
+--     span_found, span-most            what a search for a line feed counts, and that it is within the text
 --     split_line, split_rest           a text with a line feed, and one without (`split`)
 --     split_line_at, split-rest_at     the same from a place of the text on
 -- Assumes nothing.
-use mathlib.Core.Bool.{Bool, true, false}
+use mathlib.Core.Bool.{Bool, true, false, cond, not}
 use mathlib.Core.Path.{◌≡◌, refl, ap, ◌∙◌}
 use mathlib.Core.List.{List, [], ◌∷◌}
 use Prim.Native.Nat.{ℕ, zero, suc, ◌+◌, ◌-◌, ◌≤◌, ◌<◌}
-use native.Mathlib.Numerals.{add-one}
 use native.Mathlib.Omega.{arith}
-use borrow.Author.Tests.{eq-eqb, ne_eqb}
-use lib.Dec.{eqb}
-use lib.ListN.{length, get_or, take, drop, drop_of_length-le, length-drop}
-use lib.Seq.{drop-cons, drop-drop}
+use borrow.Author.Tests.{ltb-false}
+use lib.Dec.{eqb, ltb}
+use lib.ListN.{length, take, drop, length-drop}
+use lib.Seq.{drop-drop}
+use Rattle.std.proofs.lemmas.List.Recursion.{is_position_or_len}
+use Rattle.std.proofs.lemmas.List.Sums.{prefix_len-le-length}
+use Rattle.std.specs.List.{position_or_len}
+use Rattle.std.specs.Option.{unwrap_or}
+use Rattle.std.specs.Prelude.{Option, Some, None}
+use Rattle.text_keys.specs.Bytes.{feed}
 use Rattle.text_split.specs.Text.{line, rest, joined, split, span}
 
-module _ (s : List ℕ) (i : ℕ) where
-  pub span-feed : i < length s → get_or s i 0 ≡ 10 → span (drop i s) ≡ 0
-  unfolding span
-  span-feed h e = rw (drop-cons s i 0 h, eq-eqb _ _ e, span)
+-- Whether a byte is a line feed.
+abbrev pub is_feed : ℕ → Bool
+is_feed b = eqb b feed
 
-  pub span_go : i < length s → (get_or s i 0 ≡ 10 → ⊥) → span (drop i s) ≡ suc (span (drop (i + 1) s))
-  unfolding span
-  span_go h e = rw (drop-cons s i 0 h, ne_eqb _ _ e, span, add-one)
+span-step : (b : ℕ) (s : List ℕ) → span (b ∷ s) ≡ cond (is_feed b) 0 (1 + span s)
+unfolding span
+span-step b s = go (eqb b feed)
+  where
+    go : (x : Bool) → elim x [ true ↦ zero | false ↦ suc (span s) ] ≡ cond x 0 (1 + span s)
+    go true = refl
+    go false = omega arith
 
-  pub span_end : length s ≤ i → span (drop i s) ≡ 0
-  unfolding span
-  span_end h = rw (drop_of_length-le s h)
+span-position : (s : List ℕ) → span s ≡ position_or_len is_feed s
+unfolding span
+span-position s = is_position_or_len span is_feed refl span-step s
+
+-- What a search for a line feed answers.
+abbrev pub feed_at : List ℕ → Option ℕ
+feed_at s = cond (ltb (position_or_len is_feed s) (length s)) (Some (position_or_len is_feed s)) None
+
+-- The bytes before the line feed that a search found, or all of them where it found none.
+pub span_found : (s : List ℕ) (r : Option ℕ) → r ≡ feed_at s → unwrap_or r (length s) ≡ span s
+span_found s r e = rw (e, span-position) (go (ltb (position_or_len is_feed s) (length s)) refl)
+  where
+    go : (x : Bool) → ltb (position_or_len is_feed s) (length s) ≡ x → unwrap_or (cond x (Some (position_or_len is_feed s)) None) (length s) ≡ position_or_len is_feed s
+    go true u = refl
+    go false u = omega (arith, ltb-false _ _ u, prefix_len-le-length (λ b. not (is_feed b)) s)
+
+pub span-most : (s : List ℕ) → span s ≤ length s
+span-most s = rw span-position (prefix_len-le-length (λ b. not (is_feed b)) s)
 
 split_line : (t : List ℕ) → span t < length t → split t ≡ line (take (span t) t) (split (drop (suc (span t)) t))
 unfolding split span

@@ -10,12 +10,6 @@ pub fn line_end(text: &[u8], from: usize) -> usize
     requires { from ≤ length text.now }
     ensures { result ≡ from + span (drop from text.now) }
 {
-    let mut end = from;
-    while end < text.len() {
-        if text[end] == b'\n' {
-            return end;
-        }
-        end += 1;
-    }
-    end
+    let rest = &text[from..];
+    from + rest.iter().position(|&b| b == b'\n').unwrap_or(rest.len())
 }

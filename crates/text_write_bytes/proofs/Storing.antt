@@ -7,6 +7,7 @@
 --     left-start, left-length, left-fits, left-next, left_end      a loop that stores a text part by part
 --     filled, filled_short      a text that was counted first: stored where there is space, and refused where there is not
 -- Assumes nothing.
+use Rattle.std.specs.Prelude.{Err, Ok}
 use mathlib.Core.Path.{◌≡◌, refl, sym, ap, ◌∙◌}
 use mathlib.Core.List.{List, [], ◌∷◌, ◌++◌}
 use Prim.Native.Nat.{ℕ, ◌+◌, ◌≤◌, ◌<◌, ◌^◌}
@@ -18,7 +19,6 @@ use lib.Seq.{sets, sets-eq, length-sets, drop-cons}
 use Rattle.words_bounded.proofs.Front.{sets-append}
 use Rattle.refusal_causes.specs.Outcome.{fill}
 use Rattle.refusal_causes.specs.declared.Cause.TheVariants.{NoSpace}
-use Rattle.refusal_causes.specs.declared.Written.TheVariants.{Count, Refused}
 use Rattle.refusal_causes.proofs.Outcome.{outcome_parts, refused_parts, fill-whole, fill_short}
 use Rattle.text_write_bytes.specs.Stored.{Stored}
 
@@ -63,10 +63,10 @@ module _ {none text counted : List ℕ} {needed : ℕ} (count : Stored none 0 te
   needed_is : length text ≡ needed
   needed_is = omega (arith, count.place)
 
-  pub filled : {now : List ℕ} {end : ℕ} → needed ≤ length out → Stored out 0 text now end → (Count needed ≡ (fill text out).answer) × (now ≡ (fill text out).buffer)
+  pub filled : {now : List ℕ} {end : ℕ} → needed ≤ length out → Stored out 0 text now end → (Ok needed ≡ (fill text out).answer) × (now ≡ (fill text out).buffer)
   filled h s =
-      let p = outcome_parts (fill text out) (Count needed) (text ++ drop needed out) (fill-whole text out needed needed_is h) in
+      let p = outcome_parts (fill text out) (Ok needed) (text ++ drop needed out) (fill-whole text out needed needed_is h) in
       (p.0, s.bytes ∙ sets-front text out needed needed_is h ∙ p.1)
 
-  pub filled_short : length out < needed → (Refused (NoSpace needed) ≡ (fill text out).answer) × (out ≡ (fill text out).buffer)
+  pub filled_short : length out < needed → (Err (NoSpace needed) ≡ (fill text out).answer) × (out ≡ (fill text out).buffer)
   filled_short h = refused_parts (fill text out) (NoSpace needed) out (fill_short text out needed needed_is h)

@@ -13,7 +13,11 @@ fn character(specified: u64, bit: u64) -> u8
     requires { bit ≤ 1 }
     ensures { result ≡ character_of specified bit }
 {
-    if specified == 0 { 120 } else { 48 + bit as u8 }
+    if specified == 0 {
+        b'x'
+    } else {
+        b'0' + bit as u8
+    }
 }
 
 // Writes the characters of a slice.
@@ -23,14 +27,12 @@ fn put_characters(out: &mut [u8], at: usize, chains: usize, slice: TestSlice) ->
 {
     let mut specified = slice.specified;
     let mut bits = slice.bits;
-    let mut i = 0;
-    while i < chains {
+    for i in 0..chains {
         text_write_bytes::put_byte(out, at + i, character(specified % 2, bits % 2));
         specified /= 2;
         bits /= 2;
-        i += 1;
     }
-    at + i
+    at + chains
 }
 
 // Writes a line with a slice behind its key.

@@ -8,7 +8,7 @@ ghost use Rattle.text_write_bytes.specs.Stored.{Stored};
 ghost use Rattle.text_write_list.specs.SeedList.{list_text};
 
 use machine_slices::TestSlice;
-use refusal_causes::{Cause, Written};
+use refusal_causes::Cause;
 
 // Writes a seed list.
 fn put_list(
@@ -38,16 +38,13 @@ pub fn write_list(
     stop: TestSlice,
     slices: usize,
     seeds: &[u64],
-) -> Written
+) -> Result<usize, Cause>
     requires { (length head.now ≤ 65536) × (chains ≤ 64) × (length seeds.now ≤ 2048) }
     ensures answer { result ≡ (fill (list_text head.now chains stop slices seeds.now) out.old).answer }
     ensures buffer { out.new ≡ (fill (list_text head.now chains stop slices seeds.now) out.old).buffer }
 {
-    let mut none = [0u8; 1];
-    let needed = put_list(&mut none, 0, head, chains, stop, slices, seeds);
-    if out.len() < needed {
-        return Written::Refused(Cause::NoSpace(needed));
-    }
-    put_list(out, 0, head, chains, stop, slices, seeds);
-    Written::Count(needed)
+    text_write_bytes::write(
+        out,
+        |out| put_list(out, 0, head, chains, stop, slices, seeds),
+    )
 }

@@ -12,7 +12,11 @@ fn glyph(d: u64) -> u8
     requires { d < 16 }
     ensures { result ≡ glyph_of d }
 {
-    if d < 10 { 48 + d as u8 } else { 87 + d as u8 }
+    if d < 10 {
+        b'0' + d as u8
+    } else {
+        b'a' - 10 + d as u8
+    }
 }
 
 // The digits of a number, put at the end of the buffer: where they begin.
@@ -22,6 +26,7 @@ fn numeral(base: u64, n: u64, digits: &mut [u8]) -> usize
 {
     let mut i = 20;
     let mut rest = n;
+    // Not a `for`: it ends when one digit is left.
     while base <= rest {
         i -= 1;
         digits[i] = glyph(rest % base);
@@ -60,10 +65,8 @@ pub fn put_number_lines(out: &mut [u8], at: usize, base: u64, key: &[u8], number
     ensures { Stored out.old at (number_lines base key.now numbers.now) out.new result }
 {
     let mut place = at;
-    let mut i = 0;
-    while i < numbers.len() {
-        place = put_number_line(out, place, base, key, numbers[i]);
-        i += 1;
+    for &number in numbers {
+        place = put_number_line(out, place, base, key, number);
     }
     place
 }

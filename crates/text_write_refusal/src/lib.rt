@@ -7,7 +7,7 @@ ghost use Rattle.refusal_causes.specs.Outcome.{fill};
 ghost use Rattle.text_write_bytes.specs.Stored.{Stored};
 ghost use Rattle.text_write_refusal.specs.Refused.{refused_text};
 
-use refusal_causes::{Cause, Refusal, Written};
+use refusal_causes::{Cause, Refusal};
 
 // Writes a refusal.
 fn put_refusal(out: &mut [u8], at: usize, refusal: Refusal) -> usize
@@ -19,15 +19,9 @@ fn put_refusal(out: &mut [u8], at: usize, refusal: Refusal) -> usize
 }
 
 // The refusal in a lent buffer, or cause 9 with the bytes needed.
-pub fn write_refusal(out: &mut [u8], refusal: Refusal) -> Written
+pub fn write_refusal(out: &mut [u8], refusal: Refusal) -> Result<usize, Cause>
     ensures answer { result ≡ (fill (refused_text refusal) out.old).answer }
     ensures buffer { out.new ≡ (fill (refused_text refusal) out.old).buffer }
 {
-    let mut none = [0u8; 1];
-    let needed = put_refusal(&mut none, 0, refusal);
-    if out.len() < needed {
-        return Written::Refused(Cause::NoSpace(needed));
-    }
-    put_refusal(out, 0, refusal);
-    Written::Count(needed)
+    text_write_bytes::write(out, |out| put_refusal(out, 0, refusal))
 }

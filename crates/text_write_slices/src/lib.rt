@@ -8,7 +8,7 @@ ghost use Rattle.text_write_bytes.specs.Stored.{Stored};
 ghost use Rattle.text_write_slices.specs.Slices.{slice_lines};
 
 use machine_slices::TestSlice;
-use refusal_causes::{Cause, Written};
+use refusal_causes::Cause;
 
 // The number that is 1 at each of so many chains.
 fn all_chains(chains: usize) -> u64
@@ -16,7 +16,7 @@ fn all_chains(chains: usize) -> u64
     ensures { result ≡ 2 ^ chains - 1 }
 {
     if chains == 64 {
-        return 18446744073709551615;
+        return u64::MAX;
     }
     (1 << chains) - 1
 }
@@ -28,30 +28,19 @@ fn put_slice_lines(out: &mut [u8], at: usize, chains: usize, slices: &[u64]) -> 
 {
     let specified = all_chains(chains);
     let mut place = at;
-    let mut i = 0;
-    while i < slices.len() {
-        let slice = TestSlice {
-            specified,
-            bits: slices[i],
-        };
+    for &bits in slices {
+        let slice = TestSlice { specified, bits };
         place = text_write_characters::put_slice_line(out, place, b"slice=", chains, slice);
-        i += 1;
     }
     place
 }
 
 // The slices that expanding gives in a lent buffer, or cause 9 with the bytes needed.
 // An inner function: its callers show that there are at most 64 chains and 2,048 slices.
-pub fn write_slices(out: &mut [u8], chains: usize, slices: &[u64]) -> Written
+pub fn write_slices(out: &mut [u8], chains: usize, slices: &[u64]) -> Result<usize, Cause>
     requires { (chains ≤ 64) × (length slices.now ≤ 2048) }
     ensures answer { result ≡ (fill (slice_lines chains slices.now) out.old).answer }
     ensures buffer { out.new ≡ (fill (slice_lines chains slices.now) out.old).buffer }
 {
-    let mut none = [0u8; 1];
-    let needed = put_slice_lines(&mut none, 0, chains, slices);
-    if out.len() < needed {
-        return Written::Refused(Cause::NoSpace(needed));
-    }
-    put_slice_lines(out, 0, chains, slices);
-    Written::Count(needed)
+    text_write_bytes::write(out, |out| put_slice_lines(out, 0, chains, slices))
 }

@@ -2,9 +2,9 @@
 --     covers-tail                   the rest of a covered window is covered by the next state
 --     covered_found, found_covered  a window has a seed exactly where some state below the bound covers it
 -- Assumes nothing.
+use Rattle.std.specs.Prelude.{None, Option, Some}
 use mathlib.Core.Path.{◌≡◌, refl}
 use mathlib.Core.Bool.{Bool, true, false, not, ◌&&◌}
-use mathlib.Core.Option.{Option, none, some}
 use mathlib.Core.List.{List, ◌∷◌}
 use Prim.Native.Nat.{ℕ, ◌<◌}
 use lib.ListN.{length}
@@ -29,13 +29,13 @@ module _ (M : Machine) (stop : TestSlice) (closing : Bool) where
   covered_found w s h t = go (least_below (covers M stop closing w) M.states) (least_is (covers M stop closing w) M.states)
     where
       go : (o : Option ℕ) → LeastIs (covers M stop closing w) M.states o → found o ≡ true
-      go none all = absurd (clash (covers M stop closing w s) t (all s h))
-      go (some g) l = refl
+      go None all = absurd (clash (covers M stop closing w s) t (all s h))
+      go (Some g) l = refl
 
-  pub found_covered : (w : List TestSlice) → found (seed_of M stop closing w) ≡ true → (s : ℕ) × (seed_of M stop closing w ≡ some s) × (s < M.states) × (covers M stop closing w s ≡ true)
+  pub found_covered : (w : List TestSlice) → found (seed_of M stop closing w) ≡ true → (s : ℕ) × (seed_of M stop closing w ≡ Some s) × (s < M.states) × (covers M stop closing w s ≡ true)
   unfolding seed_of
   found_covered w t = go (least_below (covers M stop closing w) M.states) (least_is (covers M stop closing w) M.states) t
     where
-      go : (o : Option ℕ) → LeastIs (covers M stop closing w) M.states o → found o ≡ true → (s : ℕ) × (o ≡ some s) × (s < M.states) × (covers M stop closing w s ≡ true)
-      go none all e = absurd (clash false e refl)
-      go (some s) l e = (s, refl, l.below, l.passes)
+      go : (o : Option ℕ) → LeastIs (covers M stop closing w) M.states o → found o ≡ true → (s : ℕ) × (o ≡ Some s) × (s < M.states) × (covers M stop closing w s ≡ true)
+      go None all e = absurd (clash false e refl)
+      go (Some s) l e = (s, refl, l.below, l.passes)

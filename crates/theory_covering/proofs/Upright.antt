@@ -2,6 +2,7 @@
 --     window_upright, set-upright, list_upright     a window, a set, a seed list
 --     seed-upright                    the seed of a window is the same
 -- Assumes nothing.
+use Rattle.std.specs.Prelude.{Ok}
 use mathlib.Core.Path.{◌≡◌, sym, ap, ◌∙◌}
 use mathlib.Core.Bool.{true, false}
 use mathlib.Core.List.{List}
@@ -17,7 +18,6 @@ use Rattle.machine_slices.specs.Slices.{paired}
 use Rattle.machine_inversion.specs.Inversion.{flipped, flipped_bits, upright}
 use Rattle.machine_inversion.proofs.Inversion.{flipped-paired, slices_flipped, stop-flipped}
 use Rattle.refusal_order.specs.Order.{judged}
-use Rattle.refusal_order.specs.declared.Verdict.TheVariants.{WellFormed}
 use Rattle.refusal_checks.specs.Calls.{window_faults, set_faults, list_faults}
 use Rattle.refusal_checks.proofs.Formed.{formed-call, window_formed, set-formed, list_formed}
 use Rattle.theory_covering.specs.Covering.{seed_of}
@@ -26,7 +26,7 @@ use Rattle.theory_covering.proofs.Inversion.{inverted_window}
 none-beyond : (chains : ℕ) → beyond chains none_inverted ≡ false
 none-beyond chains = beyond_no chains 0 (pow_pos chains)
 
-pub list_upright : (g : Settings) (masks : List ℕ) (stop : TestSlice) (n seeds : ℕ) → judged (list_faults g masks stop n seeds) ≡ WellFormed → judged (list_faults (upright g) masks (flipped g.invert stop) n seeds) ≡ WellFormed
+pub list_upright : (g : Settings) (masks : List ℕ) (stop : TestSlice) (n seeds : ℕ) → judged (list_faults g masks stop n seeds) ≡ Ok tt → judged (list_faults (upright g) masks (flipped g.invert stop) n seeds) ≡ Ok tt
 unfolding list_faults
 list_upright g masks stop n seeds w =
     let f = list_formed g masks stop n seeds w in
@@ -39,13 +39,13 @@ module _ (g : Settings) (masks : List ℕ) (stop : TestSlice) (ps bs : List ℕ)
   abbrev turned : List ℕ
   turned = flipped_bits g.invert ps bs
 
-  pub window_upright : judged (window_faults g masks stop ps bs) ≡ WellFormed → judged (window_faults (upright g) masks seen ps turned) ≡ WellFormed
+  pub window_upright : judged (window_faults g masks stop ps bs) ≡ Ok tt → judged (window_faults (upright g) masks seen ps turned) ≡ Ok tt
   unfolding window_faults
   window_upright w =
       let f = window_formed g masks stop ps bs w in
       formed-call (upright g) masks _ _ _ f.register f.chains (none-beyond (length masks)) f.limit f.lengths (slices_flipped g.invert (length masks) ps bs f.slices) (stop-flipped g.invert stop (length masks) f.stop)
 
-  pub set-upright : judged (set_faults g masks stop ps bs) ≡ WellFormed → judged (set_faults (upright g) masks seen ps turned) ≡ WellFormed
+  pub set-upright : judged (set_faults g masks stop ps bs) ≡ Ok tt → judged (set_faults (upright g) masks seen ps turned) ≡ Ok tt
   unfolding set_faults
   set-upright w =
       let f = set-formed g masks stop ps bs w in

@@ -4,8 +4,7 @@
 --     covers M stop closing w s    s covers the window
 --     seed_of M stop closing w      the seed of the window: the lowest covering state, or none
 -- closing: whether the slice after the window must show the stop. It must for a window given singly and for every window of a set but the one that ends it (document 02, R-5).
-use Rattle.std.specs.Prelude.{Bool, true, not, ◌&&◌, ◌||◌, List, [], ◌∷◌, ℕ, zero, suc, length}
-use Rattle.std.proofs.Math.Option.{Option}
+use Rattle.std.specs.Prelude.{Bool, true, not, ◌&&◌, ◌||◌, List, [], ◌∷◌, ℕ, zero, suc, length, Option}
 use Rattle.words_bounded.specs.Bounded.{least_below}
 use Rattle.machine_settings.specs.Machine.{Machine}
 use Rattle.machine_slices.specs.declared.TestSlice.{TestSlice}

@@ -11,8 +11,7 @@
 --     found o                  there is one
 --     ok M R set i k           some state covers it, as a test
 --     Steady R n               one stop is live between two edges
-use Rattle.std.specs.Prelude.{◌≡◌, Bool, true, false, not, ◌&&◌, List, [], ◌∷◌, ℕ, ◌+◌, ◌-◌, ◌≤◌, ◌<◌, min, ltb, leb, eqb, length, take, drop}
-use Rattle.std.proofs.Math.Option.{Option, none, some}
+use Rattle.std.specs.Prelude.{◌≡◌, Bool, true, false, not, ◌&&◌, List, [], ◌∷◌, ℕ, ◌+◌, ◌-◌, ◌≤◌, ◌<◌, min, ltb, leb, eqb, length, take, drop, None, Option, Some}
 use Rattle.machine_settings.specs.Machine.{Machine}
 use Rattle.machine_slices.specs.declared.TestSlice.{TestSlice}
 use Rattle.theory_covering.specs.Covering.{covers, seed_of}
@@ -49,8 +48,8 @@ unfoldable pub seed_at : Machine → Rules → List TestSlice → ℕ → ℕ �
 seed_at M R set i k = seed_of M (R.live i) (closes R (length set) k) (part i k set)
 
 abbrev pub found : Option ℕ → Bool
-found none = false
-found (some s) = true
+found None = false
+found (Some s) = true
 
 unfoldable pub ok : Machine → Rules → List TestSlice → ℕ → ℕ → Bool
 ok M R set i k = placed R (length set) i k && found (seed_at M R set i k)

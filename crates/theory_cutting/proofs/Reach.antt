@@ -4,10 +4,10 @@
 --     reach_le, reach_top, reach-ok, reach_in, reach_end     what follows, fact by fact
 --     reach_mono      from a later place one comes at least as far: the only use of suffixes
 -- Assumes nothing.
+use Rattle.std.specs.Prelude.{None, Option, Some, unwrap_or}
 use mathlib.Core.Path.{◌≡◌, refl}
 use mathlib.Core.Logic.{◌⊎◌, inl, inr, ⊎_elim}
 use mathlib.Core.Bool.{Bool, true}
-use mathlib.Core.Option.{Option, none, some, get_or}
 use Prim.Native.Nat.{ℕ, suc, ◌≤◌, ◌<◌}
 use native.Mathlib.Omega.{arith}
 use Rattle.words_bounded.specs.Bounded.{last_below}
@@ -27,9 +27,9 @@ module _ (ok : ℕ → ℕ → Bool) (n : ℕ) (w : Bounds ok n) where
   unfolding reach
   reach_cases a = go (last_below (ok a) (suc n)) (last_is (ok a) (suc n))
     where
-      go : (o : Option ℕ) → LastIs (ok a) (suc n) o → Stops ok a (get_or o a) ⊎ Goes ok a (get_or o a)
-      go none all = inl (refl, λ k t. clash (ok a k) t (all k (omega (arith, w.inside a k t))))
-      go (some g) l = inr (l.passes, w.forward a g l.passes, λ k t. l.greatest k (omega (arith, w.inside a k t)) t)
+      go : (o : Option ℕ) → LastIs (ok a) (suc n) o → Stops ok a (unwrap_or o a) ⊎ Goes ok a (unwrap_or o a)
+      go None all = inl (refl, λ k t. clash (ok a k) t (all k (omega (arith, w.inside a k t))))
+      go (Some g) l = inr (l.passes, w.forward a g l.passes, λ k t. l.greatest k (omega (arith, w.inside a k t)) t)
 
   pub reach_le : (a : ℕ) → a ≤ reach ok n a
   reach_le a = ⊎_elim (λ s. omega arith) (λ g. omega arith) (reach_cases a)

@@ -4,13 +4,12 @@
 --     ends ok n d a     the ends of the greedy windows from a, at most d of them
 --     Plan              the ends of a cutting of the whole, or the place where it is stuck
 --     greedy ok n       the plan of the greedy cutting
-use Rattle.std.specs.Prelude.{Bool, true, false, List, [], ◌∷◌, ℕ, zero, suc, ltb, eqb}
-use Rattle.std.proofs.Math.Option.{get_or}
+use Rattle.std.specs.Prelude.{Bool, true, false, List, [], ◌∷◌, ℕ, zero, suc, ltb, eqb, unwrap_or}
 use Rattle.words_bounded.specs.Bounded.{last_below}
 
 module _ (ok : ℕ → ℕ → Bool) (n : ℕ) where
   unfoldable pub reach : ℕ → ℕ
-  reach a = get_or (last_below (ok a) (suc n)) a
+  reach a = unwrap_or (last_below (ok a) (suc n)) a
 
   unfoldable pub hop : ℕ → ℕ → ℕ
   hop zero a = a

@@ -4,13 +4,13 @@
 ghost use Rattle.std.specs.Prelude.{false, ◌≡◌, ◌+◌, ◌*◌, ◌^◌, ◌<◌, ◌≤◌, length, take};
 ghost use Rattle.machine_slices.specs.Slices.{bad_slices, paired};
 ghost use Rattle.window_rows.specs.Meeting.{all_meet};
-ghost use Rattle.window_rows.specs.Narrowing.{Narrows};
+ghost use Rattle.window_rows.specs.Narrowing.{Narrowed};
 ghost use Rattle.window_fitting.specs.Closing.{closed};
 
 use machine_slices::TestSlice;
 use search_space::Space;
 
-// The members of a space whose slices agree with the window, row by row.
+// The members of a space whose slices agree with the window, row by row, or None where there is none.
 // Which members are left is fixed; which vectors lead to them, and what stands behind those in the buffer, is left open.
 // An inner function: its callers show that the slices are well-formed and that the table has a row for each.
 pub fn fit(
@@ -20,25 +20,23 @@ pub fn fit(
     chains: usize,
     specified: &[u64],
     bits: &[u64],
-) -> Space
+) -> Option<Space>
     requires bits_value { bad_slices chains specified.now bits.now ≡ false }
     requires chains_in_bounds { length specified.now * chains ≤ length table.now }
-    ensures { Narrows (all_meet chains table.now 0 (paired specified.now bits.now)) space (take space.free vectors.old) result (take result.free vectors.new) }
+    ensures { Narrowed (all_meet chains table.now 0 (paired specified.now bits.now)) space (take space.free vectors.old) result vectors.new }
 {
     let mut kept = space;
-    let mut slice: usize = 0;
-    while slice < specified.len() {
+    for slice in 0..specified.len() {
         let test = TestSlice {
             specified: specified[slice],
             bits: bits[slice],
         };
-        kept = window_rows::meet_row(vectors, kept, table, chains, slice, test);
-        slice += 1;
+        kept = window_rows::meet_row(vectors, kept, table, chains, slice, test)?;
     }
-    kept
+    Some(kept)
 }
 
-// The members of a space that, where a window of so many slices must close, show the stop after it.
+// The members of a space that, where a window of so many slices must close, show the stop after it, or None where there is none.
 // Which members are left is fixed; which vectors lead to them, and what stands behind those in the buffer, is left open.
 // An inner function: its callers show that the stop specifies no more positions than there are chains and that the table has a row after the slices.
 pub fn close(
@@ -49,13 +47,13 @@ pub fn close(
     stop: TestSlice,
     closing: bool,
     slices: usize,
-) -> Space
+) -> Option<Space>
     requires specified_bound { stop.specified < 2 ^ chains }
     requires chains_in_bounds { slices * chains + chains ≤ length table.now }
-    ensures { Narrows (closed chains table.now stop closing slices) space (take space.free vectors.old) result (take result.free vectors.new) }
+    ensures { Narrowed (closed chains table.now stop closing slices) space (take space.free vectors.old) result vectors.new }
 {
     if closing {
         return window_rows::meet_row(vectors, space, table, chains, slices, stop);
     }
-    space
+    Some(space)
 }

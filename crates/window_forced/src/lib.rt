@@ -3,32 +3,27 @@
 
 ghost use Rattle.std.specs.Prelude.{◌*◌, ◌≤◌, length, take};
 ghost use Rattle.search_rows.specs.Rows.{clear};
-ghost use Rattle.window_forced.specs.Keeping.{Keeps};
+ghost use Rattle.window_forced.specs.Keeping.{Kept};
 
 use search_rows::Pattern;
 use search_space::Space;
 
-// The members of a space that may be clear in the first rows of the stop's table: what each row forces is entered, one row after the other.
+// The members of a space that may be clear in the first rows of the stop's table: what each row forces is entered, one row after the other. None says that there is none.
 fn force_rows(
     pattern: Pattern,
     stops: &[u64],
     rows: usize,
     vectors: &mut [u64],
     space: Space,
-) -> Space
+) -> Option<Space>
     requires { rows * pattern.columns ≤ length stops.now }
-    ensures { Keeps (clear pattern stops.now rows) space (take space.free vectors.old) result (take result.free vectors.new) }
+    ensures { Kept (clear pattern stops.now rows) space (take space.free vectors.old) result vectors.new }
 {
     let mut kept = space;
-    let mut row: usize = 0;
-    while row < rows {
-        kept = search_forcing::force_row(pattern, stops, row, vectors, kept);
-        if !kept.some {
-            return kept;
-        }
-        row += 1;
+    for row in 0..rows {
+        kept = search_forcing::force_row(pattern, stops, row, vectors, kept)?;
     }
-    kept
+    Some(kept)
 }
 
 // The same, again and again while vectors go out: a position that is forced may force another.
@@ -40,15 +35,16 @@ pub fn force(
     rows: usize,
     vectors: &mut [u64],
     space: Space,
-) -> Space
+) -> Option<Space>
     requires { rows * pattern.columns ≤ length stops.now }
-    ensures { Keeps (clear pattern stops.now rows) space (take space.free vectors.old) result (take result.free vectors.new) }
+    ensures { Kept (clear pattern stops.now rows) space (take space.free vectors.old) result vectors.new }
 {
     let mut free = space.free;
-    let mut kept = force_rows(pattern, stops, rows, vectors, space);
+    let mut kept = force_rows(pattern, stops, rows, vectors, space)?;
+    // Not a `for`: it ends when no vector goes out.
     while kept.free < free {
         free = kept.free;
-        kept = force_rows(pattern, stops, rows, vectors, kept);
+        kept = force_rows(pattern, stops, rows, vectors, kept)?;
     }
-    kept
+    Some(kept)
 }

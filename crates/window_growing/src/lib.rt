@@ -31,22 +31,18 @@ pub fn grow(
     let mut kept = Space {
         lowest: 0,
         free: cells,
-        some: true,
     };
-    let mut slice: usize = 0;
-    while slice < specified.len() {
+    for slice in 0..specified.len() {
         let test = TestSlice {
             specified: specified[slice],
             bits: bits[slice],
         };
-        kept = window_rows::meet_row(&mut vectors, kept, table, chains, slice, test);
-        if !kept.some {
-            return slice;
-        }
+        let met = window_rows::meet_row(&mut vectors, kept, table, chains, slice, test);
+        let Some(left) = met else { return slice };
+        kept = left;
         if slice < places {
             window_spaces::store(spaces, slice * SPACE_ENTRIES, kept, &vectors);
         }
-        slice += 1;
     }
-    slice
+    specified.len()
 }

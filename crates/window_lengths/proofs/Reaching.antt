@@ -5,10 +5,10 @@
 --     tried             the length that the loop tries
 --     reach-found, reach-none     the length that has one, or none has
 -- Assumes nothing.
+use Rattle.std.specs.Prelude.{None, Some}
 use mathlib.Core.Path.{◌≡◌, refl, sym, ap, ap₂, ◌∙◌, subst}
 use mathlib.Core.Logic.{⊎_elim}
 use mathlib.Core.Bool.{Bool, false, ◌&&◌, ◌||◌}
-use mathlib.Core.Option.{none, some}
 use mathlib.Core.List.{List}
 use Prim.Native.Nat.{ℕ, zero, suc, ◌-◌, ◌^◌, ◌≤◌, ◌<◌}
 use native.Mathlib.Omega.{arith}
@@ -38,30 +38,30 @@ use Rattle.window_lengths.specs.Longest.{closes_at, seed_for, longest, reach_of}
 module _ (M : Machine) (stop : TestSlice) (closing : Bool) (w : List TestSlice) where
   pub record Passed (k : ℕ) : Type 0 where
     pub within : k ≤ length w
-    pub longer : (j : ℕ) → k < j → j ≤ length w → seed_for M stop closing w j ≡ none
+    pub longer : (j : ℕ) → k < j → j ≤ length w → seed_for M stop closing w j ≡ None
 
-  pub passed_next : (k : ℕ) → 0 < k → Passed k → seed_for M stop closing w k ≡ none → Passed (k - 1)
+  pub passed_next : (k : ℕ) → 0 < k → Passed k → seed_for M stop closing w k ≡ None → Passed (k - 1)
   passed_next k h p e = record {
     within = omega (arith, p.within);
-    longer = λ j l m. ⊎_elim (λ q. subst (λ (i : ℕ). seed_for M stop closing w i ≡ none) (sym q) e) (λ n. p.longer j (omega arith) m) (eq_or_not j k);
+    longer = λ j l m. ⊎_elim (λ q. subst (λ (i : ℕ). seed_for M stop closing w i ≡ None) (sym q) e) (λ n. p.longer j (omega arith) m) (eq_or_not j k);
   }
 
   abbrev test : ℕ → Bool
   test k = ltb 0 k && found (seed_for M stop closing w k)
 
-  no_seed : (k : ℕ) → seed_for M stop closing w k ≡ none → test k ≡ false
+  no_seed : (k : ℕ) → seed_for M stop closing w k ≡ None → test k ≡ false
   no_seed k e = fails (test k) (λ t. clash (found (seed_for M stop closing w k)) (both (ltb 0 k) _ t).1 (ap found e))
 
-  pub reach-found : (k s : ℕ) → 0 < k → Passed k → seed_for M stop closing w k ≡ some s → record { slices = k; seed = s } ≡ reach_of M stop closing w
+  pub reach-found : (k s : ℕ) → 0 < k → Passed k → seed_for M stop closing w k ≡ Some s → Some (record { slices = k; seed = s }) ≡ reach_of M stop closing w
   unfolding reach_of longest
   reach-found k s h p e =
-      let l : longest M stop closing w ≡ some k = last_of test (suc (length w)) k (omega (arith, p.within)) (rw (lt-ltb 0 k h, e)) (λ j a b. no_seed j (p.longer j a (omega arith))) in
+      let l : longest M stop closing w ≡ Some k = last_of test (suc (length w)) k (omega (arith, p.within)) (rw (lt-ltb 0 k h, e)) (λ j a b. no_seed j (p.longer j a (omega arith))) in
       rw (l, reach_of, e)
 
-  pub reach-none : (k : ℕ) → k ≤ 0 → Passed k → record { slices = 0; seed = 0 } ≡ reach_of M stop closing w
+  pub reach-none : (k : ℕ) → k ≤ 0 → Passed k → None ≡ reach_of M stop closing w
   unfolding reach_of longest
   reach-none k h p =
-      let l : longest M stop closing w ≡ none = last_none test (suc (length w)) none_at in
+      let l : longest M stop closing w ≡ None = last_none test (suc (length w)) none_at in
       rw (l, reach_of)
     where
       none_at : (j : ℕ) → j < suc (length w) → test j ≡ false
@@ -72,7 +72,7 @@ module _ (M : Machine) (stop : TestSlice) (closing : Bool) (w : List TestSlice) 
 
 -- who covers a window meets its slices and is clear in their rows
 unmet : (g : Settings) (masks : List ℕ) (stop : TestSlice) (p : Pattern) (table stops : List ℕ) (n : ℕ) (w : List TestSlice) → Tables g masks stop p table stops n → length w < n → any (bad_slice (length masks)) w ≡ false
-    → (closing : Bool) → ((s : ℕ) → s < 2 ^ g.cells → quiet_meet (length masks) table p stops w s ≡ false) → seed_of (machine g masks) stop closing w ≡ none
+    → (closing : Bool) → ((s : ℕ) → s < 2 ^ g.cells → quiet_meet (length masks) table p stops w s ≡ false) → seed_of (machine g masks) stop closing w ≡ None
 unfolding seed_of allowed quiet_meet
 unmet g masks stop p table stops n w r h f closing u = none_of (covers (machine g masks) stop closing w) (2 ^ g.cells) (λ s l.
     fails (covers (machine g masks) stop closing w s) (λ t.

@@ -2,9 +2,8 @@
 --     closes_at closing w k         a window of the first k slices of the part w closes with its stop
 --     seed_for M stop closing w k   the seed of the first k slices, or none
 --     longest M stop closing w     how many slices the longest covered window takes, or none
---     reach_of M stop closing w     the same with its seed; 0 slices where there is none
-use Rattle.std.specs.Prelude.{Bool, ◌&&◌, ◌||◌, List, ℕ, suc, ltb, length, take}
-use Rattle.std.proofs.Math.Option.{Option, none, some, get_or}
+--     reach_of M stop closing w     the same with its seed, or none
+use Rattle.std.specs.Prelude.{Bool, ◌&&◌, ◌||◌, List, ℕ, suc, ltb, length, take, None, Option, Some, unwrap_or}
 use Rattle.words_bounded.specs.Bounded.{last_below}
 use Rattle.machine_settings.specs.Machine.{Machine}
 use Rattle.machine_slices.specs.declared.TestSlice.{TestSlice}
@@ -21,8 +20,8 @@ seed_for M stop closing w k = seed_of M stop (closes_at closing w k) (take k w)
 unfoldable pub longest : Machine → TestSlice → Bool → List TestSlice → Option ℕ
 longest M stop closing w = last_below (λ k. ltb 0 k && found (seed_for M stop closing w k)) (suc (length w))
 
-unfoldable pub reach_of : Machine → TestSlice → Bool → List TestSlice → Window
+unfoldable pub reach_of : Machine → TestSlice → Bool → List TestSlice → Option Window
 reach_of M stop closing w = elim (longest M stop closing w) [
-  | none ↦ record { slices = 0; seed = 0 }
-  | some k ↦ record { slices = k; seed = get_or (seed_for M stop closing w k) 0 }
+  | None ↦ None
+  | Some k ↦ Some (record { slices = k; seed = unwrap_or (seed_for M stop closing w k) 0 })
 ]

@@ -5,18 +5,16 @@ ghost use Rattle.std.specs.Prelude.{false, ◌≡◌, suc, ◌/◌, ◌<◌, ◌
 ghost use Rattle.machine_settings.specs.Machine.{machine};
 ghost use Rattle.machine_slices.specs.Slices.{bad_slices, paired};
 ghost use Rattle.theory_covering.specs.Covering.{seed_of};
-ghost use Rattle.search_found.specs.Search.{found_of};
 ghost use Rattle.window_tables.specs.Tables.{TablesFor};
 ghost use Rattle.window_quiet.specs.Quiet.{quiet_meet};
 ghost use Rattle.window_growing.specs.Growing.{Grown, HeldAt};
 ghost use Rattle.window_lengths.specs.Longest.{reach_of};
 
-use search_found::Found;
 use search_space::Space;
 use window_spaces::SPACE_ENTRIES;
 use window_tables::Sought;
 
-// The longest window from a start: how many slices it takes, and its seed; 0 and 0 where there is none.
+// The longest window from a start: how many slices it takes, and its seed.
 #[derive(Clone, Copy)]
 pub struct Window {
     pub slices: usize,
@@ -32,11 +30,11 @@ fn length_seed(
     specified: &[u64],
     bits: &[u64],
     spaces: &[u64],
-) -> Found
+) -> Option<u64>
     requires ready { TablesFor sought masks.now table.now stops.now (suc (length specified.now)) }
     requires slices { bad_slices (length masks.now) specified.now bits.now ≡ false }
     requires held { (0 < length specified.now) × (length specified.now ≤ length spaces.now / 66 → HeldAt (length masks.now) table.now (paired specified.now bits.now) sought.settings.cells spaces.now (length specified.now)) }
-    ensures { result ≡ found_of (seed_of (machine sought.settings masks.now) sought.stop sought.closing (paired specified.now bits.now)) }
+    ensures { result ≡ seed_of (machine sought.settings masks.now) sought.stop sought.closing (paired specified.now bits.now) }
 {
     let slices = specified.len();
     if spaces.len() / SPACE_ENTRIES < slices {
@@ -45,16 +43,12 @@ fn length_seed(
     let place = (slices - 1) * SPACE_ENTRIES;
     let lowest = spaces[place];
     let free = spaces[place + 1] as usize;
-    let space = Space {
-        lowest,
-        free,
-        some: true,
-    };
+    let space = Space { lowest, free };
     let vectors = window_spaces::load(spaces, place, free);
     window_lowest::lowest_covering(sought, masks, table, stops, specified, bits, space, vectors)
 }
 
-// The longest of the lengths up to one that some state covers, and its seed.
+// The longest of the lengths up to one that some state covers, and its seed, or none.
 // An inner function: its callers show that the part is well-formed, that the tables are those of the register, the chains and the stop slice, and that the spaces are written up to the length.
 pub fn descend(
     sought: Sought,
@@ -65,25 +59,16 @@ pub fn descend(
     bits: &[u64],
     spaces: &[u64],
     most: usize,
-) -> Window
+) -> Option<Window>
     requires ready { TablesFor sought masks.now table.now stops.now (suc (length specified.now)) }
     requires slices { bad_slices (length masks.now) specified.now bits.now ≡ false }
     requires grown { Grown (quiet_meet (length masks.now) table.now sought.pattern stops.now) (length masks.now) table.now (paired specified.now bits.now) sought.settings.cells spaces.now most }
     ensures { result ≡ reach_of (machine sought.settings masks.now) sought.stop sought.closing (paired specified.now bits.now) }
 {
-    let settings = sought.settings;
-    let stop = sought.stop;
-    let pattern = sought.pattern;
     let whole = specified.len();
-    let mut slices = most;
-    while 0 < slices {
+    for slices in (1..=most).rev() {
         let closing = sought.closing || slices < whole;
-        let part = Sought {
-            settings,
-            stop,
-            pattern,
-            closing,
-        };
+        let part = Sought { closing, ..sought };
         let found = length_seed(
             part,
             masks,
@@ -93,10 +78,9 @@ pub fn descend(
             &bits[..slices],
             spaces,
         );
-        if let Found::State(seed) = found {
-            return Window { slices, seed };
+        if let Some(seed) = found {
+            return Some(Window { slices, seed });
         }
-        slices -= 1;
     }
-    Window { slices: 0, seed: 0 }
+    None
 }

@@ -19,7 +19,7 @@ const FEW_ENTRIES: usize = 1056;
 
 const MOST_SPACES: usize = 16896;
 
-// The longest window of a part whose states are quiet in so many slices at most, with entries for the spaces that are kept. The equations of a slice are entered once; each length takes up the space that its slices left.
+// The longest window, or none, of a part whose states are quiet in so many slices at most, with entries for the spaces that are kept. The equations of a slice are entered once; each length takes up the space that its slices left.
 fn reach_with(
     sought: Sought,
     masks: &[u64],
@@ -29,7 +29,7 @@ fn reach_with(
     bits: &[u64],
     quiet: usize,
     spaces: &mut [u64],
-) -> Window
+) -> Option<Window>
     requires ready { TablesFor sought masks.now table.now stops.now (suc (length specified.now)) }
     requires slices { bad_slices (length masks.now) specified.now bits.now ≡ false }
     requires quiet { Most (quiet_meet (length masks.now) table.now sought.pattern stops.now) (paired specified.now bits.now) sought.settings.cells quiet }
@@ -46,7 +46,7 @@ fn reach_with(
     window_lengths::descend(sought, masks, table, stops, specified, bits, spaces, met)
 }
 
-// The longest window from the first slice of a part on that some state covers, and its seed: lengths are tried from the longest that the equations allow down.
+// The longest window from the first slice of a part on that some state covers, and its seed, or none: lengths are tried from the longest that the equations allow down.
 // A window that takes the whole part closes with its stop where `sought` says so, a shorter one always.
 // An inner function: its callers show that the part is well-formed and that the tables are those of the register, the chains and the stop slice.
 pub fn reach(
@@ -56,7 +56,7 @@ pub fn reach(
     stops: &[u64],
     specified: &[u64],
     bits: &[u64],
-) -> Window
+) -> Option<Window>
     requires tables_for { TablesFor sought masks.now table.now stops.now (suc (length specified.now)) }
     requires bits_value { bad_slices (length masks.now) specified.now bits.now ≡ false }
     ensures { result ≡ reach_of (machine sought.settings masks.now) sought.stop sought.closing (paired specified.now bits.now) }

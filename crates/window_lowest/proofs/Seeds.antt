@@ -1,15 +1,15 @@
 -- The seed of a window, from the space that its bits and its closing stop allow.
---     seed-none        where no member is left, there is no seed
+--     seed-unmet, seed-open, seed-shown     no state meets the slices, none of them closes the window, or none of those is clear: there is no seed
 --     seed_rising, seed_lowest     otherwise the vectors rise, and the seed is the lowest clear member; what is not clear may have gone out before
 -- Assumes nothing.
+use Rattle.std.specs.Prelude.{None, Some}
 use mathlib.Core.Path.{◌≡◌, sym, ap, ◌∙◌, subst}
 use mathlib.Core.Bool.{Bool, true, false, ◌&&◌}
-use mathlib.Core.Option.{none}
 use mathlib.Core.List.{List}
-use Prim.Native.Nat.{ℕ, suc, ◌^◌, ◌≤◌}
+use Prim.Native.Nat.{ℕ, suc, ◌^◌, ◌≤◌, ◌<◌}
 use native.Mathlib.Nat.{lt_of_lt_of_le}
 use native.Mathlib.Omega.{arith}
-use lib.ListN.{length}
+use lib.ListN.{length, take}
 use lib.Pow.{pow_mono}
 use Rattle.words_bounded.proofs.Tests.{clash, fails, both, and_yes}
 use Rattle.words_bounded.proofs.Search.{none_of, least_same}
@@ -23,24 +23,20 @@ use Rattle.search_space.specs.declared.Space.{Space}
 use Rattle.search_space.specs.Space.{among, Rising}
 use Rattle.search_rows.specs.declared.Pattern.{Pattern}
 use Rattle.search_rows.specs.Rows.{clear}
-use Rattle.search_found.specs.Search.{found_of, lowest_clear}
+use Rattle.search_found.specs.Search.{lowest_clear}
 use Rattle.theory_covering.specs.Covering.{covers, seed_of}
 use Rattle.window_tables.specs.Tables.{Tables}
 use Rattle.window_rows.specs.Meeting.{all_meet}
-use Rattle.window_rows.specs.Narrowing.{all_states, units_of, Narrows}
-use Rattle.window_rows.proofs.Narrowing.{some_member}
+use Rattle.window_rows.specs.Narrowing.{all_states, units_of, Narrows, Narrowed}
 use Rattle.window_rows.proofs.States.{states_sound, states_complete, states_rising}
 use Rattle.window_fitting.specs.Closing.{closed, allowed}
 use Rattle.window_fitting.proofs.Closing.{allowed-closed}
-use Rattle.window_forced.specs.Keeping.{Keeps}
+use Rattle.window_forced.specs.Keeping.{Keeps, Kept}
 use Rattle.window_lowest.proofs.Covering.{covers_tables}
 
 -- from the states that meet the slices (x) over those of them that close the window (y) to what forced positions leave (z)
 module _ (g : Settings) (masks : List ℕ) (stop : TestSlice) (p : Pattern) (table stops ps bs : List ℕ)
-    (r : Tables g masks stop p table stops (suc (length ps))) (b : bad_slices (length masks) ps bs ≡ false) (closing : Bool)
-    (x : Space) (us : List ℕ) (met : Narrows (all_meet (length masks) table 0 (paired ps bs)) (all_states g.cells) (units_of g.cells) x us)
-    (y : Space) (vs : List ℕ) (shut : Narrows (closed (length masks) table stop closing (length ps)) x us y vs)
-    (z : Space) (ws : List ℕ) (kept : Keeps (clear p stops (length ps)) y vs z ws) where
+    (r : Tables g masks stop p table stops (suc (length ps))) (b : bad_slices (length masks) ps bs ≡ false) (closing : Bool) where
   abbrev M : Machine
   M = machine g masks
 
@@ -59,32 +55,50 @@ module _ (g : Settings) (masks : List ℕ) (stop : TestSlice) (p : Pattern) (tab
   long : length w ≡ length ps
   long = slices_length (length masks) ps bs b
 
-  cut : Narrows A (all_states g.cells) (units_of g.cells) y vs
-  cut = allowed-closed (length masks) table stop w (all_states g.cells) (units_of g.cells) x us y vs closing (length ps) long met shut
-
   covers-rows : (s : ℕ) → covers M stop closing w s ≡ (A s && C s)
   covers-rows s = subst (λ (n : ℕ). covers M stop closing w s ≡ (A s && clear p stops n s)) long
       (covers_tables g masks stop p table stops (suc (length ps)) r w closing s (omega (arith, long)) (slices_all (length masks) ps bs b))
 
-  pub seed-none : z.some ≡ false → seed_of M stop closing w ≡ none
+  -- no state meets the slices, closes the window and is clear
+  seed-none : ((s : ℕ) → s < 2 ^ g.cells → A s ≡ true → C s ≡ true → ⊥) → seed_of M stop closing w ≡ None
   unfolding seed_of
   seed-none e = none_of (covers M stop closing w) (2 ^ g.cells) (λ s l.
-      fails (covers M stop closing w s) (λ t.
-      let a = both (A s) (C s) (sym (covers-rows s) ∙ t) in
-      clash z.some (kept.complete s (cut.complete s (states_complete g.cells few s l) a.0) a.1).0 e))
+      fails (covers M stop closing w s) (λ t. let a = both (A s) (C s) (sym (covers-rows s) ∙ t) in e s l a.0 a.1))
 
-  pub seed_rising : z.some ≡ true → Rising z.lowest 0 ws
-  seed_rising e = kept.rising (cut.rising (states_rising g.cells few) (kept.sound z.lowest (some_member z ws e)).0) e
+  pub seed-unmet : (out : List ℕ) → Narrowed (all_meet (length masks) table 0 w) (all_states g.cells) (units_of g.cells) None out → seed_of M stop closing w ≡ None
+  unfolding allowed
+  seed-unmet out met = seed-none (λ s l a k.
+      let q = all_meet (length masks) table 0 w s in
+      clash q (both q _ a).0 (met s (states_complete g.cells few s l)))
 
-  pub seed_lowest : z.some ≡ true → lowest_clear p stops (length ps) z.lowest ws ≡ found_of (seed_of M stop closing w)
-  unfolding seed_of lowest_clear
-  seed_lowest e = ap found_of (least_same (λ s. among z.lowest ws s && C s) (covers M stop closing w) (2 ^ 64) (2 ^ g.cells)
-      (λ s l t.
-      let a = both (among z.lowest ws s) (C s) t in
-      let m = cut.sound s (kept.sound s (e, a.0)) in
-      (states_sound g.cells few s m.0, covers-rows s ∙ and_yes (A s) (C s) m.1 a.1))
-      (λ s l t.
-      let a = both (A s) (C s) (sym (covers-rows s) ∙ t) in (
-        lt_of_lt_of_le l (pow_mono {i = g.cells} {j = 64} few),
-        and_yes (among z.lowest ws s) (C s) (kept.complete s (cut.complete s (states_complete g.cells few s l) a.0) a.1).1 a.1,
-      )))
+  module _ (x : Space) (us : List ℕ) (met : Narrows (all_meet (length masks) table 0 w) (all_states g.cells) (units_of g.cells) x us) where
+    pub seed-open : (out : List ℕ) → Narrowed (closed (length masks) table stop closing (length ps)) x us None out → seed_of M stop closing w ≡ None
+    seed-open out shut = seed-none (λ s l a k.
+        clash (A s) a (allowed-closed (length masks) table stop w (all_states g.cells) (units_of g.cells) x us None out closing (length ps) long met shut s (states_complete g.cells few s l)))
+
+    module _ (y : Space) (out : List ℕ) (shut : Narrowed (closed (length masks) table stop closing (length ps)) x us (Some y) out) where
+      abbrev vs : List ℕ
+      vs = take y.free out
+
+      cut : Narrows A (all_states g.cells) (units_of g.cells) y vs
+      cut = allowed-closed (length masks) table stop w (all_states g.cells) (units_of g.cells) x us (Some y) out closing (length ps) long met shut
+
+      pub seed-shown : (end : List ℕ) → Kept (clear p stops (length ps)) y vs None end → seed_of M stop closing w ≡ None
+      seed-shown end kept = seed-none (λ s l a k. kept s (cut.complete s (states_complete g.cells few s l) a) k)
+
+      module _ (z : Space) (ws : List ℕ) (kept : Keeps (clear p stops (length ps)) y vs z ws) where
+        pub seed_rising : Rising z.lowest 0 ws
+        seed_rising = kept.rising (cut.rising (states_rising g.cells few))
+
+        pub seed_lowest : lowest_clear p stops (length ps) z.lowest ws ≡ (seed_of M stop closing w)
+        unfolding seed_of lowest_clear
+        seed_lowest = (least_same (λ s. among z.lowest ws s && C s) (covers M stop closing w) (2 ^ 64) (2 ^ g.cells)
+            (λ s l t.
+            let a = both (among z.lowest ws s) (C s) t in
+            let m = cut.sound s (kept.sound s a.0) in
+            (states_sound g.cells few s m.0, covers-rows s ∙ and_yes (A s) (C s) m.1 a.1))
+            (λ s l t.
+            let a = both (A s) (C s) (sym (covers-rows s) ∙ t) in (
+              lt_of_lt_of_le l (pow_mono {i = g.cells} {j = 64} few),
+              and_yes (among z.lowest ws s) (C s) (kept.complete s (cut.complete s (states_complete g.cells few s l) a.0) a.1) a.1,
+            )))

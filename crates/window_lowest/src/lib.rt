@@ -5,12 +5,10 @@ ghost use Rattle.std.specs.Prelude.{false, ◌≡◌, suc, length, take};
 ghost use Rattle.machine_settings.specs.Machine.{machine};
 ghost use Rattle.machine_slices.specs.Slices.{bad_slices, paired};
 ghost use Rattle.theory_covering.specs.Covering.{seed_of};
-ghost use Rattle.search_found.specs.Search.{found_of};
 ghost use Rattle.window_tables.specs.Tables.{TablesFor};
 ghost use Rattle.window_rows.specs.Meeting.{all_meet};
 ghost use Rattle.window_rows.specs.Narrowing.{all_states, Narrows, units_of};
 
-use search_found::Found;
 use search_space::Space;
 use window_tables::Sought;
 
@@ -25,11 +23,11 @@ pub fn lowest_covering(
     bits: &[u64],
     space: Space,
     vectors: [u64; 64],
-) -> Found
+) -> Option<u64>
     requires ready { TablesFor sought masks.now table.now stops.now (suc (length specified.now)) }
     requires slices { bad_slices (length masks.now) specified.now bits.now ≡ false }
     requires met { Narrows (all_meet (length masks.now) table.now 0 (paired specified.now bits.now)) (all_states sought.settings.cells) (units_of sought.settings.cells) space (take space.free vectors) }
-    ensures { result ≡ found_of (seed_of (machine sought.settings masks.now) sought.stop sought.closing (paired specified.now bits.now)) }
+    ensures { result ≡ seed_of (machine sought.settings masks.now) sought.stop sought.closing (paired specified.now bits.now) }
 {
     let mut kept = vectors;
     let chains = masks.len();
@@ -42,15 +40,9 @@ pub fn lowest_covering(
         sought.stop,
         sought.closing,
         slices,
-    );
-    if !allowed.some {
-        return Found::Nothing;
-    }
-    let forced = window_forced::force(sought.pattern, stops, slices, &mut kept, allowed);
-    if !forced.some {
-        return Found::Nothing;
-    }
-    let Space { lowest, free, .. } = forced;
+    )?;
+    let forced = window_forced::force(sought.pattern, stops, slices, &mut kept, allowed)?;
+    let Space { lowest, free } = forced;
     search_lowest::lowest_clear(sought.pattern, stops, slices, lowest, kept, free)
 }
 
@@ -63,17 +55,16 @@ pub fn found_anew(
     stops: &[u64],
     specified: &[u64],
     bits: &[u64],
-) -> Found
+) -> Option<u64>
     requires tables_for { TablesFor sought masks.now table.now stops.now (suc (length specified.now)) }
     requires bits_value { bad_slices (length masks.now) specified.now bits.now ≡ false }
-    ensures { result ≡ found_of (seed_of (machine sought.settings masks.now) sought.stop sought.closing (paired specified.now bits.now)) }
+    ensures { result ≡ seed_of (machine sought.settings masks.now) sought.stop sought.closing (paired specified.now bits.now) }
 {
     let mut vectors = search_space::units();
     let all = Space {
         lowest: 0,
         free: sought.settings.cells,
-        some: true,
     };
-    let met = window_fitting::fit(&mut vectors, all, table, masks.len(), specified, bits);
+    let met = window_fitting::fit(&mut vectors, all, table, masks.len(), specified, bits)?;
     lowest_covering(sought, masks, table, stops, specified, bits, met, vectors)
 }

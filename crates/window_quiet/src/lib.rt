@@ -31,20 +31,17 @@ pub fn most_quiet(
     let mut kept = Space {
         lowest: 0,
         free: cells,
-        some: true,
     };
-    let mut slice: usize = 0;
-    while slice < specified.len() {
+    for slice in 0..specified.len() {
         let test = TestSlice {
             specified: specified[slice],
             bits: bits[slice],
         };
-        kept = window_rows::meet_row(&mut vectors, kept, table, chains, slice, test);
-        kept = search_forcing::force_row(pattern, stops, slice, &mut vectors, kept);
-        if !kept.some {
-            return slice;
-        }
-        slice += 1;
+        let met = window_rows::meet_row(&mut vectors, kept, table, chains, slice, test);
+        let Some(left) = met else { return slice };
+        let forced = search_forcing::force_row(pattern, stops, slice, &mut vectors, left);
+        let Some(quiet) = forced else { return slice };
+        kept = quiet;
     }
-    slice
+    specified.len()
 }

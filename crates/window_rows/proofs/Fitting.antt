@@ -1,12 +1,14 @@
 -- Laws of meeting the slices of a window, as its loop goes up through them.
 --     row_part          a row of the table, as a part of it
 --     row_asked         the row of a slice is there, and long enough for it
+--     Meets             a state meets a slice, by its row
 --     meet-last         one slice more
 --     meet-front, meet_at     who meets more slices meets fewer, and each of them
 --     Fitted            what the loop keeps: the members that meet the slices so far
---     fitted_start, fitted_next, fitted_none, fitted_end     at the start, after a slice, where nothing is left, and at the end
+--     fitted_start, fitted_next, fitted_none, fitted_stop, fitted_end     at the start, after a slice, where nothing is left, and at the end
 --     most_end          there are no more slices than all
 -- Assumes nothing.
+use Rattle.std.specs.Prelude.{None}
 use mathlib.Core.Path.{◌≡◌, refl, sym, ap, ap₂, ◌∙◌}
 use mathlib.Core.Bool.{Bool, true, false, ◌&&◌, and-true, and_assoc}
 use mathlib.Core.List.{List, [], ◌∷◌}
@@ -25,7 +27,7 @@ use Rattle.machine_slices.specs.Slices.{paired, bad_slices}
 use Rattle.machine_slices.proofs.Causes.{slice_at}
 use Rattle.machine_slices.proofs.Formed.{slices_length, slices_at, slices_each}
 use Rattle.window_rows.specs.Meeting.{meets, all_meet}
-use Rattle.window_rows.specs.Narrowing.{Narrows}
+use Rattle.window_rows.specs.Narrowing.{Narrows, Narrowed}
 use Rattle.window_rows.specs.Most.{Most}
 use Rattle.window_rows.proofs.Narrowing.{narrows_none, narrows_same, narrows_then}
 
@@ -36,7 +38,7 @@ pub row_asked : (c : ℕ) (table ps bs : List ℕ) → bad_slices c ps bs ≡ fa
 row_asked c table ps bs b h k l = ((slices_each c ps bs b k l).among, row_fits k (length ps) c (length table) l h)
 
 module _ (c : ℕ) (table : List ℕ) where
-  abbrev Meets : ℕ → TestSlice → ℕ → Bool
+  abbrev pub Meets : ℕ → TestSlice → ℕ → Bool
   Meets t x s = meets (row c table t) x.specified x.bits s
 
   meet-last : (w : List TestSlice) (t k s : ℕ) (d : TestSlice) → k < length w → all_meet c table t (take (suc k) w) s ≡ (all_meet c table t (take k w) s && Meets (t + k) (get_or w k d) s)
@@ -90,9 +92,15 @@ module _ (c : ℕ) (table : List ℕ) where
         (both (Q k s) (Meets k d s)
         (sym (ap (λ (n : ℕ). Q n s) (add-one k) ∙ meet-last w 0 k s d (omega (arith, long)) ∙ ap₂ (λ (n : ℕ) (t : TestSlice). Q k s && Meets n t s) e (slices_at c ps bs b k d h)) ∙ t)).1
 
-    -- where no member is left, none meets so many slices or more
-    pub fitted_none : (k : ℕ) (z : Space) (ws : List ℕ) → Fitted w x us k z ws → z.some ≡ false → (j s : ℕ) → k ≤ j → Member x us s → Q j s ≡ false
-    fitted_none k z ws f e j s l m = fails (Q j s) (λ q. clash z.some (f.complete s m (meet-front w 0 k j s l q)).0 e)
+    -- where no member is left after a slice, none meets so many slices or more
+    module _ (k : ℕ) (y : Space) (vs out : List ℕ) (h : k < length ps) (f : Fitted w x us k y vs) (g : Narrowed (Meets k (slice_at ps bs k)) y vs None out) where
+      pub fitted_none : (j s : ℕ) → k < j → Member x us s → Q j s ≡ false
+      fitted_none j s l m = fails (Q j s) (λ q.
+          clash (Meets k (slice_at ps bs k) s) (meet_at k s h (meet-front w 0 (k + 1) j s (omega arith) q))
+          (g s (f.complete s m (meet-front w 0 k j s (omega arith) q))))
+
+      pub fitted_stop : (new : List ℕ) → Narrowed (all_meet c table 0 w) x us None new
+      fitted_stop new = λ s m. sym (ap (λ (v : List TestSlice). all_meet c table 0 v s) (take_all (length ps) w (omega (arith, long)))) ∙ fitted_none (length ps) s h m
 
     pub fitted_end : (k : ℕ) (z : Space) (ws : List ℕ) → length ps ≤ k → Fitted w x us k z ws → Narrows (all_meet c table 0 w) x us z ws
     fitted_end k z ws l f = narrows_same (Q k) (all_meet c table 0 w) x us z ws (λ s. ap (λ (v : List TestSlice). all_meet c table 0 v s) (take_all k w (omega (arith, long)))) f

@@ -4,29 +4,30 @@
 ghost use Rattle.std.specs.Prelude.{◌+◌, ◌*◌, ◌^◌, ◌<◌, ◌≤◌, length, take};
 ghost use Rattle.search_rows.specs.Rows.{row as row_of};
 ghost use Rattle.window_rows.specs.Meeting.{meets};
-ghost use Rattle.window_rows.specs.Narrowing.{Narrows};
+ghost use Rattle.window_rows.specs.Narrowing.{Narrowed};
 
 use machine_slices::TestSlice;
 use search_space::Space;
 
-// The members of a space whose slice agrees with a test slice; the row reads that slice.
-fn meet(vectors: &mut [u64], space: Space, row: &[u64], specified: u64, bits: u64) -> Space
+// The members of a space whose slice agrees with a test slice, or None where there is none; the row reads that slice.
+fn meet(vectors: &mut [u64], space: Space, row: &[u64], specified: u64, bits: u64) -> Option<Space>
     requires { specified < 2 ^ length row.now }
-    ensures { Narrows (meets row.now specified bits) space (take space.free vectors.old) result (take result.free vectors.new) }
+    ensures { Narrowed (meets row.now specified bits) space (take space.free vectors.old) result vectors.new }
 {
     let mut kept = space;
     let mut left = specified;
     let mut values = bits;
     let mut chain: usize = 0;
+    // Not a `for`: it ends behind the last specified position.
     while left != 0 {
         if left % 2 == 1 {
-            kept = search_restrict::restrict(vectors, kept, row[chain], values % 2);
+            kept = search_restrict::restrict(vectors, kept, row[chain], values % 2)?;
         }
         left = left / 2;
         values = values / 2;
         chain += 1;
     }
-    kept
+    Some(kept)
 }
 
 // The same by a row of the table.
@@ -39,10 +40,10 @@ pub fn meet_row(
     chains: usize,
     row: usize,
     test: TestSlice,
-) -> Space
+) -> Option<Space>
     requires specified_bound { test.specified < 2 ^ chains }
     requires chains_in_bounds { row * chains + chains ≤ length table.now }
-    ensures { Narrows (meets (row_of chains table.now row) test.specified test.bits) space (take space.free vectors.old) result (take result.free vectors.new) }
+    ensures { Narrowed (meets (row_of chains table.now row) test.specified test.bits) space (take space.free vectors.old) result vectors.new }
 {
     let first = row * chains;
     let next = first + chains;

@@ -1,35 +1,19 @@
 // The seed of a single window: the lowest state that covers it, or a refusal.
 #![tactic(auto)]
 
-ghost use Rattle.std.specs.Prelude.{true, ◌≡◌, ℕ};
-ghost use Rattle.std.proofs.Math.Option.{Option};
+ghost use Rattle.std.specs.Prelude.{true, ◌≡◌, Ok};
 ghost use Rattle.machine_settings.specs.Machine.{none_inverted, machine};
 ghost use Rattle.machine_slices.specs.Slices.{paired};
 ghost use Rattle.refusal_order.specs.Order.{judged};
 ghost use Rattle.refusal_checks.specs.Calls.{window_faults};
-ghost use Rattle.refusal_order.specs.declared.Verdict.TheVariants as verdict;
 ghost use Rattle.theory_covering.specs.Covering.{seed_of};
 ghost use Rattle.theory_covering.specs.Single.{window_seed, lowest_or7, WindowMeaning};
-ghost use Rattle.search_found.specs.Search.{found_of};
 
 use machine_register::Register;
 use machine_settings::Settings;
 use machine_slices::TestSlice;
 use refusal_causes::Cause;
-use refusal_order::Verdict;
-use search_found::Found;
-use theory_covering::Seed;
 use window_tables::{MOST_ENTRIES, Sought};
-
-// What was found, as the answer for a single window: the lowest covering state, or cause 7.
-fn answer(found: Found) -> Seed
-    ensures { (o : Option ℕ) → found ≡ found_of o → result ≡ lowest_or7 o }
-{
-    match found {
-        Found::State(seed) => Seed::Lowest(seed),
-        Found::Nothing => Seed::Refused(Cause::NoSeed),
-    }
-}
 
 // The seed of a well-formed window, where no chain is inverted.
 fn seed_upright(
@@ -38,8 +22,8 @@ fn seed_upright(
     stop: TestSlice,
     specified: &[u64],
     bits: &[u64],
-) -> Seed
-    requires { (judged (window_faults settings masks.now stop specified.now bits.now) ≡ verdict.WellFormed) × (settings.invert ≡ none_inverted) }
+) -> Result<u64, Cause>
+    requires { (judged (window_faults settings masks.now stop specified.now bits.now) ≡ Ok tt) × (settings.invert ≡ none_inverted) }
     ensures { result ≡ lowest_or7 (seed_of (machine settings masks.now) stop true (paired specified.now bits.now)) }
 {
     let mut table = [0u64; MOST_ENTRIES];
@@ -54,8 +38,7 @@ fn seed_upright(
         pattern,
         closing: true,
     };
-    let found = window_lowest::found_anew(sought, masks, &table, &stops, specified, bits);
-    answer(found)
+    window_lowest::found_anew(sought, masks, &table, &stops, specified, bits).ok_or(Cause::NoSeed)
 }
 
 // The seed of a well-formed window: what it asks for is flipped at the inverted chains, once.
@@ -65,8 +48,8 @@ fn seed_of(
     stop: TestSlice,
     specified: &[u64],
     bits: &[u64],
-) -> Seed
-    requires { judged (window_faults settings masks.now stop specified.now bits.now) ≡ verdict.WellFormed }
+) -> Result<u64, Cause>
+    requires { judged (window_faults settings masks.now stop specified.now bits.now) ≡ Ok tt }
     ensures { result ≡ lowest_or7 (seed_of (machine settings masks.now) stop true (paired specified.now bits.now)) }
 {
     let mut flipped = [0u64; Register::LONGEST_WINDOW];
@@ -84,13 +67,10 @@ pub fn window_seed(
     stop: TestSlice,
     specified: &[u64],
     bits: &[u64],
-) -> Seed
+) -> Result<u64, Cause>
     ensures answer { result ≡ window_seed settings masks.now stop specified.now bits.now }
     ensures meaning { WindowMeaning settings masks.now stop specified.now bits.now result }
 {
-    let verdict = refusal_checks::check_window(settings, masks, stop, specified, bits);
-    match verdict {
-        Verdict::Refused(cause) => Seed::Refused(cause),
-        Verdict::WellFormed => seed_of(settings, masks, stop, specified, bits),
-    }
+    refusal_checks::check_window(settings, masks, stop, specified, bits)?;
+    seed_of(settings, masks, stop, specified, bits)
 }

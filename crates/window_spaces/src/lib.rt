@@ -19,15 +19,11 @@ pub fn store(spaces: &mut [u64], place: usize, space: Space, vectors: &[u64])
     ensures space { Holds spaces.new place space.lowest space.free (take space.free vectors.now) }
 {
     let free = space.free;
-    let count = words_bounded::lesser(free, 64);
+    let count = free.min(64);
     spaces[place] = space.lowest;
     spaces[place + 1] = free as u64;
     let first = place + 2;
-    let mut vector: usize = 0;
-    while vector < count {
-        spaces[first + vector] = vectors[vector];
-        vector += 1;
-    }
+    spaces[first..first + count].copy_from_slice(&vectors[..count]);
 }
 
 // The vectors of a space that was written at a place.
@@ -38,12 +34,8 @@ pub fn load(spaces: &[u64], place: usize, free: usize) -> [u64; 64]
     ensures { take free result ≡ held_vectors spaces.now place free }
 {
     let mut vectors = [0u64; 64];
-    let count = words_bounded::lesser(free, 64);
+    let count = free.min(64);
     let first = place + 2;
-    let mut vector: usize = 0;
-    while vector < count {
-        vectors[vector] = spaces[first + vector];
-        vector += 1;
-    }
+    vectors[..count].copy_from_slice(&spaces[first..first + count]);
     vectors
 }

@@ -5,8 +5,7 @@
 --     last_below p n         the greatest number below n that passes, or none
 --     NoneBelow p n         no number below n passes
 --     Least p n g, Last p n g     g is the least, the greatest, number below n that passes
-use Rattle.std.specs.Prelude.{◌≡◌, Bool, true, false, ◌&&◌, ◌||◌, List, [], ◌∷◌, ℕ, zero, suc, ◌≤◌, ◌<◌, leb}
-use Rattle.std.proofs.Math.Option.{Option, none, some}
+use Rattle.std.specs.Prelude.{◌≡◌, Bool, true, false, ◌&&◌, ◌||◌, List, [], ◌∷◌, ℕ, zero, suc, ◌≤◌, ◌<◌, leb, None, Option, Some}
 
 unfoldable pub within : ℕ → ℕ → ℕ → Bool
 within low high n = leb low n && leb n high
@@ -17,13 +16,13 @@ any p (x ∷ xs) = p x || any p xs
 
 -- The search goes up: what is found below n stands before n itself.
 unfoldable pub least_below : (ℕ → Bool) → ℕ → Option ℕ
-least_below p zero = none
-least_below p (suc n) = elim (least_below p n) [ some g ↦ some g | none ↦ elim (p n) [ true ↦ some n | false ↦ none ] ]
+least_below p zero = None
+least_below p (suc n) = elim (least_below p n) [ Some g ↦ Some g | None ↦ elim (p n) [ true ↦ Some n | false ↦ None ] ]
 
 -- The search goes down: the first that passes is the greatest.
 unfoldable pub last_below : (ℕ → Bool) → ℕ → Option ℕ
-last_below p zero = none
-last_below p (suc n) = elim (p n) [ true ↦ some n | false ↦ last_below p n ]
+last_below p zero = None
+last_below p (suc n) = elim (p n) [ true ↦ Some n | false ↦ last_below p n ]
 
 abbrev pub NoneBelow : (ℕ → Bool) → ℕ → Type 0
 NoneBelow p n = (k : ℕ) → k < n → p k ≡ false

@@ -92,8 +92,8 @@ pub fn windows(random: &mut Random, given: Given, count: usize) -> Table {
             call.bits.truncate(most);
         }
         let told = match call.window_seed() {
-            Ok(state) => format!("seed.Lowest {state}"),
-            Err(refused) => format!("seed.Refused {}", cause(refused)),
+            Ok(state) => format!("Ok {state}"),
+            Err(refused) => format!("Err {}", cause(refused)),
         };
         let lists = format!("{} {}", list(&call.specified), list(&call.bits));
         (
@@ -107,7 +107,7 @@ pub fn windows(random: &mut Random, given: Given, count: usize) -> Table {
     });
     Table {
         name: given.name("windows"),
-        kind: "Seed",
+        kind: "Result ℕ Cause",
         rows: rows.collect(),
     }
 }

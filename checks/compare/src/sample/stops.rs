@@ -35,15 +35,15 @@ pub fn stops(random: &mut Random, count: usize) -> Table {
         let call = stop_set(random);
         let chains = call.masks.len();
         let told = match call.stop_slice() {
-            Ok(stop) => format!("formed.Stop {}", slice(stop)),
-            Err(refused) => format!("formed.Refused {}", cause(refused)),
+            Ok(stop) => format!("Ok {}", slice(stop)),
+            Err(refused) => format!("Err {}", cause(refused)),
         };
         let set = format!("{} {}", list(&call.specified), list(&call.bits));
         (format!("stop_of {chains} {set}"), told)
     });
     Table {
         name: "stops".into(),
-        kind: "Formed",
+        kind: "Result TestSlice Cause",
         rows: rows.collect(),
     }
 }

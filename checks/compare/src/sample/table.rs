@@ -65,8 +65,8 @@ pub fn cause(refused: Refused) -> String {
 
 pub fn outcome(answer: Result<usize, Refused>, buffer: &[u64]) -> String {
     let answer = match answer {
-        Ok(count) => format!("written.Count {count}"),
-        Err(refused) => format!("written.Refused {}", cause(refused)),
+        Ok(count) => format!("Ok {count}"),
+        Err(refused) => format!("Err {}", cause(refused)),
     };
     format!(
         "(record {{ answer = {answer}; buffer = {} }})",
@@ -78,9 +78,9 @@ pub fn outcome(answer: Result<usize, Refused>, buffer: &[u64]) -> String {
 pub fn cubes_outcome(answer: Result<(u64, u64, usize), Refused>, buffer: &[u64]) -> String {
     let answer = match answer {
         Ok((specified, bits, count)) => {
-            format!("encoded_cubes.Seeds {} {count}", slice((specified, bits)))
+            format!("seeds_with {} {count}", slice((specified, bits)))
         }
-        Err(refused) => format!("encoded_cubes.Refused {}", cause(refused)),
+        Err(refused) => format!("Err {}", cause(refused)),
     };
     let buffer = list(buffer);
     format!("(record {{ answer = {answer}; buffer = {buffer} }})")

@@ -19,20 +19,20 @@ pub fill-requires : goal.fill-requires
 fill-requires c =
     let a = c.args in
     let w = set-formed a.settings a.masks.now a.stop a.specified.now a.bits.now c.requires.0 in
-    table-room (c.lesser-rows.result + 1) (length a.masks.now) (omega (arith, w.most, c.lesser-rows.ensures)) w.few
+    table-room (c.min-rows.result + 1) (length a.masks.now) (omega (arith, w.most, c.min-rows.ensures)) w.few
 
 pub fill_stops-pattern-requires : goal.fill_stops-pattern-requires
 fill_stops-pattern-requires c =
     let a = c.args in
     let w = set-formed a.settings a.masks.now a.stop a.specified.now a.bits.now c.requires.0 in
-    let l = c.lesser-rows in
+    let l = c.min-rows in
     (w.few, table-room (l.result + 1) (length a.masks.now) (omega (arith, w.most, l.ensures)) w.few)
 
 pub gather-gathered-requires : goal.gather-gathered-requires
 gather-gathered-requires c =
     let a = c.args in
     let w = set-formed a.settings a.masks.now a.stop a.specified.now a.bits.now c.requires.0 in
-    let l = c.lesser-rows in
+    let l = c.min-rows in
     let k = c.fill_stops-pattern in
     let f = c.fill in
     let n : l.result + 1 ≡ suc (min a.settings.limit (length a.specified.now)) = add-one l.result ∙ ap suc l.ensures in record { ready = rw (sym n) (tables_filled a.settings a.masks.now a.stop k.result f.new.table k.new.stops _ _ (l.result + 1) w.register w.chains c.requires.1 w.stop k.ensures.answer f.ensures k.ensures.buffer); slices = w.slices; lengths = (w.most, (set-within (length a.specified.now) w.lengths).1, (set-within (length a.specified.now) w.lengths).1); earlier = (omega arith, omega arith) }

@@ -1,5 +1,4 @@
 -- `encoder_settling::settle` meets its contract. Assumes nothing.
-use mathlib.Core.Path.{◌∙◌}
 use Rattle.encoder_settling.specs.Settling.{settled}
 use Rattle.encoder_settling.proofs.Settling.{settled_stuck, settled_short, settled-whole}
 use Rattle.refusal_causes.proofs.Outcome.{refused_parts, outcome_parts}
@@ -17,4 +16,4 @@ pub returns : goal.returns
 returns c =
     let a = c.args in
     let e = settled-whole a.slices a.gathered a.seeds.now a.out.now c.if-gathered-slices.false c.requires c.if-out-count.false in
-    let p = outcome_parts (settled a.slices a.gathered a.seeds.now a.out.now) _ _ e in record { answer = p.0; buffer = c.copy.ensures ∙ p.1 }
+    let p = outcome_parts (settled a.slices a.gathered a.seeds.now a.out.now) _ _ e in record { answer = p.0; buffer = rw c.copy_from_slice.ensures.after p.1 }

@@ -8,8 +8,8 @@ use Rattle.face_answers.proofs.answer_of.Goals as goal
 abbrev refusedAnswer : Refusal → Answer
 refusedAnswer r = record { number = r.number; value = r.value }
 
-pub returns-in-Count : goal.returns-in-Count
-returns-in-Count c = sym (ap answer_of c.in-Count.is)
+pub returns-in-Ok : goal.returns-in-Ok
+returns-in-Ok c = sym (ap answer_of c.in-Ok.is)
 
-pub returns-in-Refused : goal.returns-in-Refused
-returns-in-Refused c = ap refusedAnswer c.refusal_of-refusal.ensures ∙ sym (ap answer_of c.in-Refused.is)
+pub returns-in-Err : goal.returns-in-Err
+returns-in-Err c = ap refusedAnswer c.from-refusal.ensures ∙ sym (ap answer_of c.in-Err.is)

@@ -5,10 +5,10 @@ use Rattle.face_answers.specs.Answers.{cubes_answer_of}
 use Rattle.face_answers.specs.declared.CubesAnswer.{CubesAnswer}
 use Rattle.face_answers.proofs.cubes_answer_of.Goals as goal
 
-pub returns-in-Seeds : goal.returns-in-Seeds
-returns-in-Seeds c = sym (ap cubes_answer_of c.in-Seeds.is)
+pub returns-in-Ok : goal.returns-in-Ok
+returns-in-Ok c = sym (ap cubes_answer_of c.in-Ok.is)
 
-pub returns-in-Refused : goal.returns-in-Refused
-returns-in-Refused c =
+pub returns-in-Err : goal.returns-in-Err
+returns-in-Err c =
     let refused : Refusal → CubesAnswer = λ r. record { number = r.number; value = r.value; specified = 0; bits = 0 } in
-    ap refused c.refusal_of-refusal.ensures ∙ sym (ap cubes_answer_of c.in-Refused.is)
+    ap refused c.from-refusal.ensures ∙ sym (ap cubes_answer_of c.in-Err.is)

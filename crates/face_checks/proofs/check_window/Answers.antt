@@ -4,4 +4,4 @@ use Rattle.face_checks.specs.Verdicts.{number_of}
 use Rattle.face_checks.proofs.check_window.Goals as goal
 
 pub returns : goal.returns
-returns c = c.number.ensures ∙ ap number_of (rw c.settings_of-given.ensures at c.check_window.ensures)
+returns c = c.number.ensures ∙ ap number_of (rw (c.from-given.ensures, c.test_slice_of-stop.ensures) at c.check_window.ensures)

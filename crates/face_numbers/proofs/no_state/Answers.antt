@@ -2,4 +2,4 @@
 use Rattle.face_numbers.proofs.no_state.Goals as goal
 
 pub returns : goal.returns
-returns c = rw c.refusal_of-refusal.ensures
+returns c = rw c.from-refusal.ensures

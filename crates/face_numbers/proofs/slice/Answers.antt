@@ -8,4 +8,4 @@ returns-then-bad_register c = c.no_slice.ensures ∙ refused_slice _ _ _ (sym c.
 
 pub returns : goal.returns
 returns c =
-    rw c.settings_of.ensures at c.slice_found.ensures ∙ lawful_slice _ _ _ (sym c.bad_register.ensures ∙ c.if-bad_register.false)
+    rw c.into.ensures at c.slice_found.ensures ∙ lawful_slice _ _ _ (sym c.bad_register.ensures ∙ c.if-bad_register.false)

@@ -8,8 +8,8 @@ use Rattle.face_numbers.proofs.stop_answer_of.Goals as goal
 abbrev refusedStop : Refusal → StopAnswer
 refusedStop r = record { number = r.number; value = r.value; specified = 0; bits = 0 }
 
-pub returns-in-Stop : goal.returns-in-Stop
-returns-in-Stop c = sym (ap stop_answer_of c.in-Stop.is)
+pub returns-in-Ok : goal.returns-in-Ok
+returns-in-Ok c = sym (ap stop_answer_of c.in-Ok.is)
 
-pub returns-in-Refused : goal.returns-in-Refused
-returns-in-Refused c = ap refusedStop c.refusal_of-refusal.ensures ∙ sym (ap stop_answer_of c.in-Refused.is)
+pub returns-in-Err : goal.returns-in-Err
+returns-in-Err c = ap refusedStop c.from-refusal.ensures ∙ sym (ap stop_answer_of c.in-Err.is)

@@ -8,4 +8,6 @@ use Rattle.face_window.proofs.window_seed.Goals as goal
 pub returns : goal.returns
 returns c =
     let a = c.args in
-    let g = c.settings_of-given in record { answer = c.seed_answer_of.ensures ∙ ap seed_answer_of (rw g.ensures at c.window_seed-seed.ensures.answer); meaning = window_means (settings_of a.settings) a.masks.now (test_slice_of a.stop_specified a.stop_bits) a.specified.now a.bits.now }
+    let g = c.from-given in
+    let t = c.test_slice_of-stop in
+    record { answer = c.seed_answer_of.ensures ∙ ap seed_answer_of (rw (g.ensures, t.ensures) at c.window_seed-seed.ensures.answer); meaning = window_means (settings_of a.settings) a.masks.now (test_slice_of a.stop_specified a.stop_bits) a.specified.now a.bits.now }

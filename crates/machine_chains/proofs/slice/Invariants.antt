@@ -1,12 +1,8 @@
--- `machine_chains::slice` meets its contract: the masks from `left` on have given their bits. Assumes nothing.
-use Prim.Native.Nat.{◌≤◌, min, ◌-◌}
-use mathlib.Core.Path.{◌≡◌}
-use lib.ListN.{length, take, drop}
-use Rattle.machine_chains.specs.Chains.{slice}
+-- `machine_chains::slice` meets its contract: the masks behind those that are left have given their bits. Assumes nothing.
+use Rattle.std.specs.Iterator.Adapters.{rev_source}
+use Rattle.std.specs.Slice.Iter.{iter_rest}
+use Rattle.machine_chains.proofs.Slices.{Read}
 use Rattle.machine_chains.proofs.slice.Given as goal
 
-abbrev pub invariant-loop-left : goal.invariant-loop-left
-invariant-loop-left l = (l.left ≤ min 64 (length l.masks)) × (l.bits ≡ slice (drop l.left (take 64 l.masks)) l.state)
-
-abbrev pub decreases-loop-left : goal.decreases-loop-left
-decreases-loop-left l = l.left
+abbrev pub invariant-loop-mask : goal.invariant-loop-mask
+invariant-loop-mask l = Read l.masks l.state (iter_rest (rev_source l.mask-iterator)) l.bits

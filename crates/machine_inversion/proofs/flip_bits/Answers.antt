@@ -1,5 +1,4 @@
 -- `machine_inversion::flip_bits` meets its contract. Assumes nothing.
-use Prim.Native.Nat.{◌-◌}
 use native.Mathlib.Omega.{arith}
 use Rattle.machine_inversion.proofs.Flipping.{flipping_start, flipping_step, flipping_end}
 use Rattle.machine_inversion.proofs.flip_bits.Goals as goal

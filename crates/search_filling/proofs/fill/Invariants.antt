@@ -1,12 +1,9 @@
 -- `search_filling::fill` meets its contract. Assumes nothing.
 use mathlib.Core.Path.{◌≡◌}
-use Prim.Native.Nat.{◌-◌, ◌≤◌}
+use Prim.Native.Nat.{◌≤◌}
 use lib.ListN.{length, take}
 use Rattle.search_rows.specs.Leaf.{Filled}
 use Rattle.search_filling.proofs.fill.Given as goal
 
 abbrev pub invariant-loop-row : goal.invariant-loop-row
-invariant-loop-row l = (l.row ≤ l.rows) × (l.count ≤ l.row) × (length l.words ≡ 512) × Filled l.pattern l.table l.rows l.lowest (take l.free l.vectors) l.words l.count
-
-abbrev pub decreases-loop-row : goal.decreases-loop-row
-decreases-loop-row l = l.rows - l.row
+invariant-loop-row l = (l.count ≤ l.row) × (length l.words ≡ 512) × Filled l.pattern l.table l.rows l.lowest (take l.free l.vectors) l.words l.count

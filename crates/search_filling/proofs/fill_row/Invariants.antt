@@ -1,11 +1,7 @@
 -- `search_filling::fill_row` meets its contract. Assumes nothing.
-use Prim.Native.Nat.{◌-◌}
 use lib.ListN.{take}
 use Rattle.search_filling.proofs.Words.{Filling}
 use Rattle.search_filling.proofs.fill_row.Given as goal
 
 abbrev pub invariant-loop-column : goal.invariant-loop-column
-invariant-loop-column l = Filling (record { columns = l.columns; bits = l.initial.bits }) l.table l.row l.lowest (take l.free l.vectors) l.initial.words l.first l.words l.bits l.column l.place
-
-abbrev pub decreases-loop-column : goal.decreases-loop-column
-decreases-loop-column l = l.columns - l.column
+invariant-loop-column l = Filling (record { columns = l.columns; bits = l.initial.bits }) l.table l.row l.lowest (take l.free l.vectors) l.initial.words l.first l.words l.bits l.column

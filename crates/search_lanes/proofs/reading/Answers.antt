@@ -2,8 +2,7 @@
 use borrow.Author.Rules.{rules}
 use native.Mathlib.Omega.{arith}
 use mathlib.Core.Path.{◌≡◌, ap, ◌∙◌}
-use Prim.Native.Nat.{ℕ, ◌*◌, ◌-◌, min}
-use lib.Bits.{xor_lt}
+use Prim.Native.Nat.{ℕ, ◌*◌, min}
 use lib.ListN.{length, take, get_or}
 use Rattle.words_bounded.proofs.Front.{take-lesser}
 use Rattle.words_gf2.specs.Words.{odd}
@@ -19,7 +18,7 @@ only-word-requires c = let a = c.args in omega (arith, odd_lt a.lowest a.mask, c
 pub loop-place-init : goal.loop-place-init
 loop-place-init c =
     let a = c.args in
-    (omega arith, search rules, lanes_start a.lowest a.vectors.now a.mask c.only-word.result (c.only-word.ensures ∙ ap (λ (n : ℕ). 18446744073709551615 * n) c.odd.ensures))
+    lanes_start a.lowest a.vectors.now a.mask c.only-word.result (c.only-word.ensures ∙ ap (λ (n : ℕ). 18446744073709551615 * n) c.odd.ensures)
 
 pub only-word-requires-in-loop-place : goal.only-word-requires-in-loop-place
 only-word-requires-in-loop-place c =
@@ -29,12 +28,8 @@ only-word-requires-in-loop-place c =
 pub loop-place-preserved : goal.loop-place-preserved
 loop-place-preserved c =
     let a = c.args in
-    let l = c.loop-place in (
-      omega arith,
-      xor_lt 64 l.word c.only-word-in-loop-place.result l.invariant.1 (search rules),
-      lanes_next a.lowest a.vectors.now a.mask l.place l.word c.only-word-in-loop-place.result c.digits.result c.odd-in-loop-place.result (omega arith)
-          c.digits.ensures c.only-word-in-loop-place.ensures c.odd-in-loop-place.ensures l.invariant.2,
-    )
+    let l = c.loop-place in
+    lanes_next a.lowest a.vectors.now a.mask l.place l.word c.only-word-in-loop-place.result c.digits.result c.odd-in-loop-place.result (omega arith) c.digits.ensures c.only-word-in-loop-place.ensures c.odd-in-loop-place.ensures l.invariant
 
 pub returns : goal.returns
 unfolding readings
@@ -43,4 +38,4 @@ returns c =
     let l = c.loop-place in
     let e : l.place ≡ min 6 (length a.vectors.now) = omega arith in
     let t : take l.place a.vectors.now ≡ take 6 a.vectors.now = ap (λ (n : ℕ). take n a.vectors.now) e ∙ take-lesser 6 a.vectors.now in
-    word_is (λ i. odd (pick a.lowest (take 6 a.vectors.now) i) a.mask) (λ i. odd_lt _ a.mask) l.word l.invariant.1 (λ i h. l.invariant.2 i h ∙ rw t)
+    word_is (λ i. odd (pick a.lowest (take 6 a.vectors.now) i) a.mask) (λ i. odd_lt _ a.mask) l.word (search rules) (λ i h. l.invariant i h ∙ rw t)

@@ -2,9 +2,9 @@
 use mathlib.Core.Path.{sym, ◌∙◌}
 use Rattle.search_lowest.proofs.lowest_clear.Goals as goal
 
-pub returns-in-State : goal.returns-in-State
-returns-in-State c =
-    let e = c.in-State.is in
+pub returns-in-Some : goal.returns-in-Some
+returns-in-Some c =
+    let e = c.in-Some.is in
     sym e ∙ c.rise-found.ensures _ e
 
 pub returns : goal.returns

@@ -2,7 +2,7 @@
 use borrow.Author.Rules.{rules}
 use native.Mathlib.Omega.{arith}
 use mathlib.Core.Path.{◌≡◌, ◌∙◌}
-use Prim.Native.Nat.{◌-◌, ◌<◌}
+use Prim.Native.Nat.{◌<◌}
 use lib.ListN.{length, take, length-take}
 use lib.Seq.{get_or-take, take-take}
 use Rattle.search_space.proofs.Blocks.{block_rising, front_rising}
@@ -12,12 +12,12 @@ use Rattle.search_lowest.proofs.rise.Goals as goal
 pub branch-found-requires : goal.branch-found-requires
 branch-found-requires c =
     let a = c.args in
-    let t : take c.lesser-count.result (take a.free a.vectors) ≡ take c.lesser-count.result a.vectors = take-take c.lesser-count.result a.free a.vectors (omega arith) in record { rising = rw t at (front_rising (take a.free a.vectors) c.lesser-count.result c.requires.rising); columns_in_bounds = c.requires.columns_in_bounds }
+    let t : take c.min-few.result (take a.free a.vectors) ≡ take c.min-few.result a.vectors = take-take c.min-few.result a.free a.vectors (omega arith) in record { rising = rw t at (front_rising (take a.free a.vectors) c.min-few.result c.requires.rising); columns_in_bounds = c.requires.columns_in_bounds }
 
 pub loop-count-init : goal.loop-count-init
 loop-count-init c =
     let a = c.args in
-    let n = c.lesser-count.result in
+    let n = c.min-few.result in
     let t : take n (take a.free a.vectors) ≡ take n a.vectors = take-take n a.free a.vectors (omega arith) in
     (omega arith, c.branch-found.ensures ∙ rw t)
 

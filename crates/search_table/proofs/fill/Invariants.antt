@@ -1,10 +1,6 @@
 -- `search_table::fill` meets its contract. Assumes nothing.
-use Prim.Native.Nat.{◌-◌}
 use Rattle.search_table.proofs.Filling.{Filled}
 use Rattle.search_table.proofs.fill.Given as goal
 
 abbrev pub invariant-loop-place : goal.invariant-loop-place
 invariant-loop-place l = Filled l.taps l.rows l.masks l.initial.table l.table l.place
-
-abbrev pub decreases-loop-place : goal.decreases-loop-place
-decreases-loop-place l = l.count - l.place

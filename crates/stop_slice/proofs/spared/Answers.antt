@@ -1,10 +1,15 @@
 -- `stop_slice::spared` meets its contract. Assumes nothing.
-use mathlib.Core.Path.{sym, ◌∙◌}
-use Rattle.stop_slice.proofs.Forming.{spare-stop, spare_six}
+use Rattle.std.specs.Prelude.{None, Option, Some, ok_or}
+use mathlib.Core.Path.{◌≡◌, refl, ap, ◌∙◌}
+use Rattle.refusal_causes.specs.declared.Cause.TheVariants as cause
+use Rattle.machine_slices.specs.declared.TestSlice.{TestSlice}
+use Rattle.stop_slice.specs.Entry.{stop_or6}
 use Rattle.stop_slice.proofs.spared.Goals as goal
 
-pub returns-in-Spare : goal.returns-in-Spare
-returns-in-Spare c = spare-stop _ _ (sym c.spare.ensures ∙ c.in-Spare.is)
+or6 : (o : Option TestSlice) → ok_or o cause.AllTaken ≡ stop_or6 o
+unfolding stop_or6
+or6 None = refl
+or6 (Some stop) = refl
 
-pub returns-in-AllTaken : goal.returns-in-AllTaken
-returns-in-AllTaken c = spare_six _ (sym c.spare.ensures ∙ c.in-AllTaken.is)
+pub returns : goal.returns
+returns c = c.ok_or.ensures.value ∙ ap (λ (o : Option TestSlice). ok_or o cause.AllTaken) c.spare.ensures ∙ or6 _

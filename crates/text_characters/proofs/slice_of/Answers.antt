@@ -1,53 +1,55 @@
--- `text_characters::slice_of` meets its contract. The invariant: the characters from i on say the slice so far, whose numbers have a digit for each.
+-- `text_characters::slice_of` meets its contract. The invariant: the characters that were read say the slice so far, whose numbers have a digit for each.
 -- Assumes nothing.
-use mathlib.Core.Path.{sym, ◌∙◌}
-use Prim.Native.Nat.{◌-◌}
+use mathlib.Core.Path.{◌≡◌, sym, ◌∙◌}
+use mathlib.Core.List.{[], ◌∷◌, ◌++◌}
+use Prim.Native.Nat.{◌+◌, ◌-◌, ◌<◌}
+use native.Mathlib.Nat.{sub-zero}
 use native.Mathlib.Omega.{arith}
-use lib.ListN.{length}
+use lib.ListN.{length, get_or, length-append}
 use lib.Pow.{pow_pos}
-use Rattle.text_characters.specs.Characters.{slice_of}
-use Rattle.text_characters.proofs.Slices.{slice-start, slice_go, slice-none, slice_end, specified_lt, bit_lt, slice_fits}
+use Rattle.std.proofs.lemmas.List.{length-reverse}
+use Rattle.std.proofs.lemmas.Iterator.Adapters.{YieldsList-from_rev_slice}
+use Rattle.std.proofs.lemmas.Iterator.Consumers.{YieldsList-turn, YieldsList-end}
+use Rattle.text_characters.proofs.Slices.{slice-start, slice_go, slice-none, slice_end, specified_lt, bit_lt, slice_fits, from_last}
 use Rattle.text_characters.proofs.slice_of.Goals as goal
+use Rattle.text_characters.proofs.slice_of.Goals.{In-Some, In-None}
 
-pub loop-i-init : goal.loop-i-init
-loop-i-init c = (omega arith, slice-start c.args.value.now, pow_pos _, pow_pos _)
+pub loop-b-init : goal.loop-b-init
+loop-b-init c = (omega arith, rw sub-zero (slice-start c.args.value.now), pow_pos 0, pow_pos 0)
 
-pub overflow_sub-i : goal.overflow_sub-i
-overflow_sub-i c = omega arith
-
-pub bounds-value-i : goal.bounds-value-i
-bounds-value-i c = omega arith
+-- The character of this iteration.
+turn : (c : In-Some) → (length c.loop-b.yielded < length c.args.value.now) × (c.in-Some.field-0.now ≡ get_or c.args.value.now (length c.args.value.now - length c.loop-b.yielded - 1) 0)
+turn c =
+    let l = c.args.value.now in
+    let t = YieldsList-turn (YieldsList-from_rev_slice {s = c.into_iter-b-iterator.result} l cc) c.loop-b.yielded _ c.loop-b.yielded_by _ _ _ c.in-Some.is c.next.ensures.steps in
+    from_last l _ _ t.0 t.1
 
 pub returns-then-not-is_character : goal.returns-then-not-is_character
 returns-then-not-is_character c =
-    sym (slice-none _ c.loop-i.i _ _ (omega arith) c.loop-i.invariant.0 c.loop-i.invariant.1 (sym c.is_character.ensures ∙ c.if-not-is_character.true))
-
-pub overflow_mul-specified : goal.overflow_mul-specified
-overflow_mul-specified c =
-    let q = (slice_fits c.loop-i.specified 1 c.loop-i.i _ c.requires (omega arith) c.loop-i.invariant.0 c.loop-i.invariant.2 (omega arith)).1 in
-    omega arith
+    let t = turn (goal.at.returns-then-not-is_character c).In-Some in
+    sym (slice-none _ _ _ _ _ t.0 t.1 c.loop-b.invariant.1 (sym c.is_character.ensures ∙ c.if-not-is_character.true))
 
 pub overflow_add-specified : goal.overflow_add-specified
 overflow_add-specified c =
-    record { fits = rw c.specified_at.ensures (slice_fits c.loop-i.specified _ c.loop-i.i _ c.requires (omega arith) c.loop-i.invariant.0 c.loop-i.invariant.2 (specified_lt _)).1 }
-
-pub overflow_mul-bits : goal.overflow_mul-bits
-overflow_mul-bits c =
-    let q = (slice_fits c.loop-i.bits 1 c.loop-i.i _ c.requires (omega arith) c.loop-i.invariant.0 c.loop-i.invariant.3 (omega arith)).1 in
-    omega arith
+    let t = turn (goal.at.overflow_add-specified c).In-Some in
+    let w = c.loop-b.invariant in
+    record { fits = rw c.specified_at.ensures (slice_fits _ _ _ (omega arith) w.2 (specified_lt _)).1 }
 
 pub overflow_add-bits : goal.overflow_add-bits
 overflow_add-bits c =
-    record { fits = rw c.bit_at.ensures (slice_fits c.loop-i.bits _ c.loop-i.i _ c.requires (omega arith) c.loop-i.invariant.0 c.loop-i.invariant.3 (bit_lt _)).1 }
+    let t = turn (goal.at.overflow_add-bits c).In-Some in
+    let w = c.loop-b.invariant in
+    record { fits = rw c.bit_at.ensures (slice_fits _ _ _ (omega arith) w.3 (bit_lt _)).1 }
 
-pub loop-i-smaller : goal.loop-i-smaller
-loop-i-smaller c = omega arith
-
-pub loop-i-preserved : goal.loop-i-preserved
-loop-i-preserved c =
-    let l = c.args.value.now in
-    let pre = c.requires in
-    rw (c.bit_at.ensures, c.specified_at.ensures) (omega arith, slice_go l c.loop-i.i _ _ (omega arith) c.loop-i.invariant.0 c.loop-i.invariant.1 (sym c.is_character.ensures ∙ c.if-not-is_character.false), (slice_fits c.loop-i.specified _ c.loop-i.i (length l) pre (omega arith) c.loop-i.invariant.0 c.loop-i.invariant.2 (specified_lt _)).0, (slice_fits c.loop-i.bits _ c.loop-i.i (length l) pre (omega arith) c.loop-i.invariant.0 c.loop-i.invariant.3 (bit_lt _)).0)
+pub loop-b-preserved : goal.loop-b-preserved
+loop-b-preserved c =
+    let t = turn (goal.at.loop-b-preserved c).In-Some in
+    let w = c.loop-b.invariant in
+    let more : length (c.loop-b.yielded ++ c.in-Some.field-0 ∷ []) ≡ length c.loop-b.yielded + 1 = length-append c.loop-b.yielded (c.in-Some.field-0 ∷ []) in
+    rw (more, c.bit_at.ensures, c.specified_at.ensures) (omega arith, slice_go _ _ _ _ _ t.0 t.1 w.1 (sym c.is_character.ensures ∙ c.if-not-is_character.false), (slice_fits _ _ _ (omega arith) w.2 (specified_lt _)).0, (slice_fits _ _ _ (omega arith) w.3 (bit_lt _)).0)
 
 pub returns : goal.returns
-returns c = sym (slice_end _ c.loop-i.i _ _ (omega arith) c.loop-i.invariant.1)
+returns c =
+    let l = c.args.value.now in
+    let all = YieldsList-end (YieldsList-from_rev_slice {s = c.into_iter-b-iterator.result} l cc) c.loop-b.yielded _ c.loop-b.yielded_by _ _ c.in-None.is c.next.ensures.steps in
+    sym (slice_end l _ _ _ (all.1 ∙ length-reverse l) c.loop-b.invariant.1)

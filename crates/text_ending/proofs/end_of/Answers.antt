@@ -1,6 +1,6 @@
 -- `text_ending::end_of` meets its contract. Assumes nothing.
+use Rattle.std.specs.Prelude.{Err}
 use mathlib.Core.Path.{sym, ap, ◌∙◌}
-use Rattle.text_ending.specs.declared.Scanned.TheVariants.{Refused}
 use Rattle.text_ending.proofs.Ends.{end_whole, end_early}
 use Rattle.text_ending.proofs.end_of.Goals as goal
 
@@ -9,4 +9,4 @@ returns-then-may_end c = sym (end_whole _ _ _ (sym c.may_end.ensures ∙ c.if-ma
 
 pub returns-else-may_end : goal.returns-else-may_end
 returns-else-may_end c =
-    ap Refused c.refused_at.ensures ∙ sym (end_early _ _ _ (sym c.may_end.ensures ∙ c.if-may_end.false))
+    ap Err c.refused_at.ensures ∙ sym (end_early _ _ _ (sym c.may_end.ensures ∙ c.if-may_end.false))

@@ -1,5 +1,7 @@
 -- `text_expand_said::reply_slices` meets its contract. Assumes nothing.
-use mathlib.Core.Path.{refl, sym}
+use Rattle.std.specs.Prelude.{Err}
+use Rattle.std.proofs.lemmas.Result.{err_from_is_err_and}
+use mathlib.Core.Path.{refl, sym, ap, ◌∙◌}
 use native.Mathlib.Nat.{min-le_right}
 use native.Mathlib.Omega.{arith}
 use lib.ListN.{length, length-take}
@@ -11,19 +13,21 @@ use Rattle.text_expand_said.proofs.reply_slices.Goals as goal
 
 pub slice_bounds-write_slices-end : goal.slice_bounds-write_slices-end
 slice_bounds-write_slices-end c =
-    let h = c.lesser-count.ensures in
+    let h = c.min-count.ensures in
     let xs = c.args.slices.now in
     sym (length-take-le _ xs (rw h (min-le_right _ (length xs))))
 
 pub write_slices-lines-requires : goal.write_slices-lines-requires
 write_slices-lines-requires c =
     let h = c.requires in
-    (h.0, omega (arith, h.1, length-take c.lesser-count.result c.args.slices.now))
+    (h.0, omega (arith, h.1, length-take c.min-count.result c.args.slices.now))
 
-pub returns-in-Count : goal.returns-in-Count
-returns-in-Count c =
-    let p = slices_leave _ _ _ _ _ c.lesser-count.ensures _ _ _ c.answered.ensures c.write_slices-lines.ensures.answer c.write_slices-lines.ensures.buffer in record { answer = rw c.in-Count.is p.0; buffer = rw c.in-Count.is p.1 }
-
-pub returns-in-Refused : goal.returns-in-Refused
+pub returns-in_err-n : goal.returns-in_err-n
 unfolding slices_reply called
-returns-in-Refused c = record { answer = rw (c.in-Refused.is, c.refusal_of.ensures) refl; buffer = rw c.in-Refused.is refl }
+returns-in_err-n c =
+    let x = err_from_is_err_and _ c.from_residual.ensures.1 in
+    record { answer = rw c.in_err-n.was (x.1 ∙ ap Err x.2); buffer = rw c.in_err-n.was refl }
+
+pub returns : goal.returns
+returns c =
+    let p = slices_leave _ _ _ _ _ c.min-count.ensures _ _ _ c.answered.ensures c.write_slices-lines.ensures.answer c.write_slices-lines.ensures.buffer in record { answer = rw c.in_ok-n.was p.0; buffer = rw c.in_ok-n.was p.1 }

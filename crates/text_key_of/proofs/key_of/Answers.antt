@@ -1,10 +1,7 @@
 -- `text_key_of::key_of` meets its contract. The invariant: the key with which the line begins is the one among the rows that are left. Assumes nothing.
-use Prim.Native.Nat.{◌-◌}
+use Rattle.std.specs.Prelude.{Some}
 use mathlib.Core.Path.{sym, ap, ◌∙◌}
 use native.Mathlib.Omega.{arith}
-use Rattle.text_keys.specs.Keys.{rows}
-use Rattle.text_key_of.specs.Begins.{key_of}
-use Rattle.text_key_of.specs.declared.Named.TheVariants.{Known}
 use Rattle.text_key_of.proofs.Naming.{key_here, key_go, key_end}
 use Rattle.text_key_of.proofs.key_of.Goals as goal
 
@@ -16,10 +13,7 @@ spelling_at-spelling-requires c = omega arith
 
 pub returns-then-begins : goal.returns-then-begins
 returns-then-begins c =
-    ap (λ r. Known r.0) c.spelling_at-spelling.ensures ∙ sym (key_here _ c.loop-i.i (omega arith) (sym c.begins.ensures ∙ c.if-begins.true)) ∙ c.loop-i.invariant
-
-pub loop-i-smaller : goal.loop-i-smaller
-loop-i-smaller c = omega arith
+    ap (λ r. Some r.0) c.spelling_at-spelling.ensures ∙ sym (key_here _ c.loop-i.i (omega arith) (sym c.begins.ensures ∙ c.if-begins.true)) ∙ c.loop-i.invariant
 
 pub loop-i-preserved : goal.loop-i-preserved
 loop-i-preserved c =

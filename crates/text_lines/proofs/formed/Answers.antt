@@ -3,9 +3,9 @@ use mathlib.Core.Path.{sym, ◌∙◌}
 use Rattle.text_lines.proofs.Values.{formed_known, formed_unknown}
 use Rattle.text_lines.proofs.formed.Goals as goal
 
-pub returns-in-Known : goal.returns-in-Known
-returns-in-Known c =
-    c.keyed.ensures ∙ sym (formed_known _ _ _ (sym c.key_of.ensures ∙ c.in-Known.is))
+pub returns-in-Some : goal.returns-in-Some
+returns-in-Some c =
+    c.keyed.ensures ∙ sym (formed_known _ _ _ (sym c.key_of.ensures ∙ c.in-Some.is))
 
-pub returns-in-Unknown : goal.returns-in-Unknown
-returns-in-Unknown c = sym (formed_unknown _ _ (sym c.key_of.ensures ∙ c.in-Unknown.is))
+pub returns-in-None : goal.returns-in-None
+returns-in-None c = sym (formed_unknown _ _ (sym c.key_of.ensures ∙ c.in-None.is))

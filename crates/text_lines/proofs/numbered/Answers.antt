@@ -2,10 +2,10 @@
 use Rattle.text_lines.specs.Form.{numbered}
 use Rattle.text_lines.proofs.numbered.Goals as goal
 
-pub returns-in-Value : goal.returns-in-Value
+pub returns-in-Some : goal.returns-in-Some
 unfolding numbered
-returns-in-Value c = rw c.in-Value.is
+returns-in-Some c = rw c.in-Some.is
 
-pub returns-in-Nothing : goal.returns-in-Nothing
+pub returns-in-None : goal.returns-in-None
 unfolding numbered
-returns-in-Nothing c = rw c.in-Nothing.is
+returns-in-None c = rw c.in-None.is

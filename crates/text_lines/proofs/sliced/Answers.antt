@@ -2,10 +2,10 @@
 use Rattle.text_lines.specs.Form.{sliced}
 use Rattle.text_lines.proofs.sliced.Goals as goal
 
-pub returns-in-Slice : goal.returns-in-Slice
+pub returns-in-Some : goal.returns-in-Some
 unfolding sliced
-returns-in-Slice c = rw c.in-Slice.is
+returns-in-Some c = rw c.in-Some.is
 
-pub returns-in-Nothing : goal.returns-in-Nothing
+pub returns-in-None : goal.returns-in-None
 unfolding sliced
-returns-in-Nothing c = rw c.in-Nothing.is
+returns-in-None c = rw c.in-None.is

@@ -1,5 +1,7 @@
 -- `text_place::moved` meets its contract. Assumes nothing.
 use native.Mathlib.Omega.{arith}
+use Rattle.text_keys.specs.declared.Key.TheVariants as key
+use Rattle.text_keys.proofs.Table.{same_derived}
 use Rattle.text_place.specs.Places.{moved}
 use Rattle.text_place.proofs.Runs.{run-most}
 use Rattle.text_place.proofs.moved.Goals as goal
@@ -10,4 +12,5 @@ overflow_add-run c = rw c.run_of-run.ensures (omega (arith, run-most c.args.plac
 pub returns : goal.returns
 unfolding moved
 returns c =
-    rw (c.number_if-chains.ensures, c.same-2.ensures, c.number_if-cells.ensures, c.same.ensures, c.run_of-run.ensures)
+    let k = c.args.key in
+    rw (c.number_if-chains.ensures, c.eq-2.ensures, same_derived k key.Chains, c.number_if-cells.ensures, c.eq.ensures, same_derived k key.Cells, c.run_of-run.ensures)

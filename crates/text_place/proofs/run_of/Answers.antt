@@ -1,10 +1,11 @@
 -- `text_place::run_of` meets its contract. Assumes nothing.
 use mathlib.Core.Path.{sym, ◌∙◌}
+use Rattle.text_keys.proofs.Table.{same_derived}
 use Rattle.text_place.proofs.Runs.{run-here, run_none}
 use Rattle.text_place.proofs.run_of.Goals as goal
 
-pub returns-then-same : goal.returns-then-same
-returns-then-same c = sym (run-here _ _ (sym c.same.ensures ∙ c.if-same.true))
+pub returns-then-eq : goal.returns-then-eq
+returns-then-eq c = sym (run-here _ _ (sym (c.eq.ensures ∙ same_derived _ _) ∙ c.if-eq.true))
 
-pub returns-else-same : goal.returns-else-same
-returns-else-same c = sym (run_none _ _ (sym c.same.ensures ∙ c.if-same.false))
+pub returns-else-eq : goal.returns-else-eq
+returns-else-eq c = sym (run_none _ _ (sym (c.eq.ensures ∙ same_derived _ _) ∙ c.if-eq.false))

@@ -2,10 +2,10 @@
 use Rattle.text_replies.specs.Calls.{answered}
 use Rattle.text_replies.proofs.answered.Goals as goal
 
-pub returns-in-Count : goal.returns-in-Count
+pub returns-in-Ok : goal.returns-in-Ok
 unfolding answered
-returns-in-Count c = rw c.in-Count.is
+returns-in-Ok c = rw c.in-Ok.is
 
-pub returns-in-Refused : goal.returns-in-Refused
+pub returns-in-Err : goal.returns-in-Err
 unfolding answered
-returns-in-Refused c = rw (c.in-Refused.is, c.refusal_of.ensures)
+returns-in-Err c = rw (c.in-Err.is, c.from.ensures)

@@ -1,11 +1,15 @@
 -- `text_replies::bytes_of` meets its contract. Assumes nothing.
+use Rattle.std.specs.Prelude.{◌≡◌, ℕ, refl, Err, Ok, Result}
+use Rattle.std.specs.Result.{result_unwrap_or}
+use mathlib.Core.Path.{◌∙◌}
+use Rattle.refusal_causes.specs.declared.Cause.{Cause}
 use Rattle.text_replies.specs.Calls.{bytes_of}
 use Rattle.text_replies.proofs.bytes_of.Goals as goal
 
-pub returns-in-Count : goal.returns-in-Count
+or_none : (w : Result ℕ Cause) → result_unwrap_or w 0 ≡ bytes_of w
 unfolding bytes_of
-returns-in-Count c = rw c.in-Count.is
+or_none (Ok n) = refl
+or_none (Err c) = refl
 
-pub returns-in-Refused : goal.returns-in-Refused
-unfolding bytes_of
-returns-in-Refused c = rw c.in-Refused.is
+pub returns : goal.returns
+returns c = c.unwrap_or.ensures ∙ or_none _

@@ -3,13 +3,13 @@ use mathlib.Core.Path.{refl, ap, ◌∙◌}
 use Rattle.text_replies.specs.Calls.{bytes_of, shown}
 use Rattle.text_replies.proofs.print.Goals as goal
 
-pub returns-in-Text : goal.returns-in-Text
+pub returns-in-Ok : goal.returns-in-Ok
 unfolding shown
-returns-in-Text c = record { count = rw c.in-Text.is refl; buffer = rw c.in-Text.is refl }
+returns-in-Ok c = record { count = rw c.in-Ok.is refl; buffer = rw c.in-Ok.is refl }
 
-pub returns-in-Refused : goal.returns-in-Refused
+pub returns-in-Err : goal.returns-in-Err
 unfolding shown
-returns-in-Refused c = record {
-  count = rw c.in-Refused.is (c.bytes_of.ensures ∙ ap bytes_of c.write_refusal.ensures.answer);
-  buffer = rw c.in-Refused.is c.write_refusal.ensures.buffer;
+returns-in-Err c = record {
+  count = rw c.in-Err.is (c.bytes_of.ensures ∙ ap bytes_of c.write_refusal.ensures.answer);
+  buffer = rw c.in-Err.is c.write_refusal.ensures.buffer;
 }

@@ -1,30 +1,21 @@
--- `text_split::line_end` meets its contract. The invariant: from here on the line ends where it ends from its start.
+-- `text_split::line_end` meets its contract. The search for a line feed passes the bytes that `span` counts.
 -- Assumes nothing.
-use Prim.Native.Nat.{◌-◌}
+use mathlib.Core.Path.{◌≡◌, ap, ◌∙◌}
+use Prim.Native.Nat.{◌+◌, ◌-◌}
 use native.Mathlib.Omega.{arith}
-use Rattle.text_split.proofs.Splitting.{span-feed, span_go, span_end}
+use lib.ListN.{length, take, drop, length-drop}
+use lib.Seq.{take_all}
+use borrow.Author.Rules.{rules}
+use borrow.Author.Tests.{tests}
+use Rattle.std.proofs.lemmas.Iterator.{YieldsList-from_slice}
+use Rattle.std.proofs.lemmas.Iterator.Search.{position_from_yields_List}
+use Rattle.text_split.proofs.Splitting.{is_feed, span_found}
 use Rattle.text_split.proofs.line_end.Goals as goal
-
-pub loop-end-init : goal.loop-end-init
-loop-end-init c = omega arith
-
-pub bounds-text-end : goal.bounds-text-end
-bounds-text-end c = omega arith
-
-pub returns-then-text-end-eq10 : goal.returns-then-text-end-eq10
-returns-then-text-end-eq10 c =
-    omega (arith, span-feed c.args.text.now c.loop-end.end (omega arith) c.if-text-end-eq10.true)
-
-pub overflow_add-end : goal.overflow_add-end
-overflow_add-end c = omega arith
-
-pub loop-end-smaller : goal.loop-end-smaller
-loop-end-smaller c = omega arith
-
-pub loop-end-preserved : goal.loop-end-preserved
-loop-end-preserved c =
-    omega (arith, span_go c.args.text.now c.loop-end.end (omega arith) c.if-text-end-eq10.false)
 
 pub returns : goal.returns
 returns c =
-    omega (arith, span_end c.args.text.now c.loop-end.end (omega arith))
+    let n = c.args.from in
+    let s = drop n c.args.text.now in
+    let all : take (length c.args.text.now - n) s ≡ s = take_all _ s (simp length-drop (omega arith)) in
+    let found = position_from_yields_List is_feed _ _ c.position.result c.position.ensures.ran (YieldsList-from_slice s (c.iter.ensures.rest ∙ all)) (λ x b q k. search (rules, tests)) in
+    ap (λ m. n + m) (c.unwrap_or.ensures ∙ rw all (span_found s c.position.result found))

@@ -5,7 +5,6 @@ use Prim.Native.Nat.{◌≤◌}
 use native.Mathlib.Nat.{mod-lt, div-lt_self}
 use native.Mathlib.Omega.{arith}
 use lib.ListN.{length-set}
-use Rattle.text_write_numbers.specs.Numerals.{numeral}
 use Rattle.text_write_numbers.proofs.Digits.{digit_room, digit_less, digit_go, digit_first, digits-none, word_fits}
 use Rattle.text_write_numbers.proofs.numeral.Goals as goal
 

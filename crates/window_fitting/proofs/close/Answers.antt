@@ -7,7 +7,7 @@ pub returns-then-closing : goal.returns-then-closing
 returns-then-closing c =
     let a = c.args in
     let m = c.meet_row in
-    closed_yes a.chains a.table.now a.stop a.slices a.space (take a.space.free a.vectors.now) m.result (take m.result.free m.new.vectors) a.closing c.if-closing.true m.ensures
+    closed_yes a.chains a.table.now a.stop a.slices a.space (take a.space.free a.vectors.now) m.result m.new.vectors a.closing c.if-closing.true m.ensures
 
 pub returns : goal.returns
 returns c =

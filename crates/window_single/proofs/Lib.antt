@@ -1,3 +1,0 @@
--- The laws of the answer.
-
-pub mod Answering
