@@ -57,6 +57,7 @@ module _ (p : Pattern) (table : List ℕ) (m : ℕ) where
     mask j = get_or ms j 0
 
     pub record Branched (rest : List ℕ) (found : Option ℕ) (j : ℕ) : Type 0 where
+      pub within : j ≤ length ms
       pub rising : Rising x 0 rest
       pub shorter : length rest ≤ length vs
       pub sub : (s : ℕ) → Among x rest s → Among x vs s
@@ -66,6 +67,7 @@ module _ (p : Pattern) (table : List ℕ) (m : ℕ) where
 
     pub branched_start : Rising x 0 vs → Branched vs a 0
     branched_start r = record {
+      within = omega arith;
       rising = r;
       shorter = omega arith;
       sub = λ s h. h;
@@ -75,8 +77,9 @@ module _ (p : Pattern) (table : List ℕ) (m : ℕ) where
     }
 
     -- no member of the rest reads otherwise than x
-    pub branched_same : (rest : List ℕ) (found : Option ℕ) (j : ℕ) → pivot (mask j) rest ≡ 0 → Branched rest found j → Branched (without (mask j) rest) found (j + 1)
-    branched_same rest found j z b = subst (λ (l : List ℕ). Branched l found (j + 1)) (sym (without-same (mask j) rest z)) (record {
+    pub branched_same : (rest : List ℕ) (found : Option ℕ) (j : ℕ) → j < length ms → pivot (mask j) rest ≡ 0 → Branched rest found j → Branched (without (mask j) rest) found (j + 1)
+    branched_same rest found j lt z b = subst (λ (l : List ℕ). Branched l found (j + 1)) (sym (without-same (mask j) rest z)) (record {
+      within = omega arith;
       rising = b.rising;
       shorter = b.shorter;
       sub = b.sub;
@@ -99,8 +102,9 @@ module _ (p : Pattern) (table : List ℕ) (m : ℕ) where
           alike_kept (mask j) rest y s (pivot_moves (mask j) rest x s n h)
           (omega (arith, xor-odd x (pivot (mask j) rest) (mask j), pivot_parity (mask j) rest n, odd_lt x (mask j), odd_lt s (mask j)))
 
-      pub branched_child : Finds (Passes p table m y (without (mask j) rest)) found r → Branched (without (mask j) rest) r (j + 1)
-      branched_child f = record {
+      pub branched_child : j < length ms → Finds (Passes p table m y (without (mask j) rest)) found r → Branched (without (mask j) rest) r (j + 1)
+      branched_child lt f = record {
+        within = omega arith;
         rising = rising_kept (mask j) rest b.rising;
         shorter = omega (arith, b.shorter, without_shorter (mask j) rest n);
         sub = λ s h. b.sub s (kept_alike (mask j) rest x s h).0;

@@ -1,21 +1,21 @@
 -- Laws of the look-up, as the code goes through the test slices.
 --     in_unspecified, in_shows       whether one slice is in, one test after the other
---     counted                       how many are in, by the pairs of the two lists
+--     rest, in_hit, in_miss, in_end  how many are in from the place i on, as a loop counts them
 --     put-fits, put_bit_fits         a position more fits a word
 -- Assumes nothing.
-use mathlib.Core.Path.{◌≡◌, refl, ap}
-use mathlib.Core.Bool.{Bool, true, false}
-use mathlib.Core.List.{List, [], ◌∷◌}
-use Prim.Native.Nat.{ℕ, suc, ◌+◌, ◌*◌, ◌^◌, ◌<◌}
+use mathlib.Core.Path.{◌≡◌}
+use mathlib.Core.Bool.{true, false}
+use mathlib.Core.List.{List}
+use Prim.Native.Nat.{ℕ, suc, ◌+◌, ◌*◌, ◌^◌, ◌≤◌, ◌<◌, min}
 use native.Mathlib.Omega.{arith}
 use lib.Bits.{bit_and}
-use lib.ListN.{length}
+use lib.ListN.{length, drop}
 use borrow.Author.Tests.{eq-eqb, ne_eqb}
 use Rattle.words_gf2.proofs.Digits.{put_below}
 use Rattle.machine_slices.specs.declared.TestSlice.{TestSlice}
-use Rattle.std.specs.List.{zip, filter as pairs_that_pass}
-use Rattle.machine_slices.specs.Slices.{paired, shows}
-use Rattle.machine_slices.proofs.Paired.{on_pair}
+use Rattle.machine_slices.specs.Slices.{shows}
+use Rattle.machine_slices.proofs.Paired.{paired_from, paired-past}
+use Rattle.machine_slices.proofs.Causes.{slice_at}
 use Rattle.stop_steps.specs.Steps.{filter}
 use Rattle.stop_steps.specs.Lookup.{is_in, in_count}
 use Rattle.stop_counting.specs.Unset.{Unset}
@@ -30,22 +30,22 @@ module _ (stop t : TestSlice) where
   unfolding is_in
   in_shows h = rw (eq-eqb (bit_and t.specified stop.specified) stop.specified h)
 
-module _ (stop : TestSlice) where
-  filtered : (ps bs : List ℕ) → length (filter (is_in stop) (paired ps bs)) ≡ length (pairs_that_pass (on_pair (is_in stop)) (zip ps bs))
-  unfolding filter paired
-  filtered [] bs = refl
-  filtered (p ∷ ps) [] = refl
-  filtered (p ∷ ps) (b ∷ bs) = go (is_in stop (record { specified = p; bits = b })) refl (filtered ps bs)
-    where
-      go : (t : Bool) → is_in stop (record { specified = p; bits = b }) ≡ t
-          → length (filter (is_in stop) (paired ps bs)) ≡ length (pairs_that_pass (on_pair (is_in stop)) (zip ps bs))
-          → length (filter (is_in stop) (record { specified = p; bits = b } ∷ paired ps bs)) ≡ length (pairs_that_pass (on_pair (is_in stop)) ((p, b) ∷ zip ps bs))
-      go true e h = rw (e, filter) (ap suc h)
-      go false e h = rw (e, filter) h
+module _ (stop : TestSlice) (ps bs : List ℕ) where
+  abbrev pub rest : ℕ → ℕ
+  rest i = in_count stop (drop i ps) (drop i bs)
 
-  pub counted : (ps bs : List ℕ) → in_count stop ps bs ≡ length (pairs_that_pass (on_pair (is_in stop)) (zip ps bs))
-  unfolding in_count
-  counted ps bs = filtered ps bs
+  module _ (i : ℕ) (h : i < min (length ps) (length bs)) where
+    pub in_hit : is_in stop (slice_at ps bs i) ≡ true → rest i ≡ suc (rest (i + 1))
+    unfolding in_count filter
+    in_hit t = rw (paired_from ps bs i h, t, filter)
+
+    pub in_miss : is_in stop (slice_at ps bs i) ≡ false → rest i ≡ rest (i + 1)
+    unfolding in_count filter
+    in_miss t = rw (paired_from ps bs i h, t, filter)
+
+  pub in_end : (i : ℕ) → min (length ps) (length bs) ≤ i → rest i ≡ 0
+  unfolding in_count filter
+  in_end i h = rw (paired-past ps bs i h)
 
 module _ (p : ℕ) (stop : TestSlice) (u : Unset p stop) where
   pub put-fits : stop.specified < 2 ^ 64 → stop.specified + 2 ^ p < 2 ^ 64

@@ -22,11 +22,19 @@ fn is_in(stop: TestSlice, test: TestSlice) -> bool
 pub fn count_in(stop: TestSlice, specified: &[u64], bits: &[u64]) -> usize
     ensures { result ≡ in_count stop specified.now bits.now }
 {
-    specified
-        .iter()
-        .zip(bits)
-        .filter(|&(&specified, &bits)| is_in(stop, TestSlice { specified, bits }))
-        .count()
+    // By index: a chain over both lists takes two to eight times as long here.
+    let slices = specified.len().min(bits.len());
+    let mut count = 0;
+    for i in 0..slices {
+        let test = TestSlice {
+            specified: specified[i],
+            bits: bits[i],
+        };
+        if is_in(stop, test) {
+            count += 1;
+        }
+    }
+    count
 }
 
 // The stop slice with an unset position set to a bit.

@@ -12,7 +12,18 @@ use machine_slices::TestSlice;
 fn taken(pattern: TestSlice, specified: &[u64], bits: &[u64]) -> bool
     ensures { result ≡ any (equals pattern) (paired specified.now bits.now) }
 {
-    specified.iter().zip(bits).any(|(&specified, &bits)| TestSlice { specified, bits } == pattern)
+    // By index: a chain over both lists takes twice as long here.
+    let slices = specified.len().min(bits.len());
+    for i in 0..slices {
+        let test = TestSlice {
+            specified: specified[i],
+            bits: bits[i],
+        };
+        if test == pattern {
+            return true;
+        }
+    }
+    false
 }
 
 // A candidate as one of so many patterns: it is specified at every position.

@@ -81,9 +81,9 @@ loop-mask-preserved t c =
       o.auto.vectors ∙ l.invariant.0,
       rw w (elim c.if-taken-ne0.branch [
         | then-taken-ne0 v ↦
-            rw v.found-is (branched_child a.pattern a.table.now a.rows a.lowest (take a.free a.vectors) a.before _ (take l.left l.rest) l.found v.branch-found.result l.mask-index (λ z. v.if-taken-ne0.true (e ∙ z)) l.invariant.1
+            rw v.found-is (branched_child a.pattern a.table.now a.rows a.lowest (take a.free a.vectors) a.before _ (take l.left l.rest) l.found v.branch-found.result l.mask-index (λ z. v.if-taken-ne0.true (e ∙ z)) l.invariant.1 c.loop-mask-test.true
             (lowest_clear_finds a.pattern a.table.now a.rows _ _ l.found v.branch-found.result (rw (w, e) at v.branch-found.ensures)))
-        | else-taken-ne0 v ↦ rw v.found-is (branched_same a.pattern a.table.now a.rows a.lowest (take a.free a.vectors) a.before _ (take l.left l.rest) l.found l.mask-index (sym e ∙ v.if-taken-ne0.false) l.invariant.1)
+        | else-taken-ne0 v ↦ rw v.found-is (branched_same a.pattern a.table.now a.rows a.lowest (take a.free a.vectors) a.before _ (take l.left l.rest) l.found l.mask-index c.loop-mask-test.true (sym e ∙ v.if-taken-ne0.false) l.invariant.1)
       ]),
     )
 

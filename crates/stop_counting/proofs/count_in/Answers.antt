@@ -1,15 +1,29 @@
--- `stop_counting::count_in` meets its contract. Assumes nothing.
-use Rattle.std.proofs.Common.{rules, tests}
-use Rattle.std.proofs.lemmas.Iterator.{YieldsList-from_slice, YieldsList-from_zip}
-use Rattle.std.proofs.lemmas.Iterator.Consumers.{YieldsList-from_filter, count_from_yields_List}
-use Rattle.machine_slices.proofs.Paired.{on_pair}
-use Rattle.stop_steps.specs.Lookup.{is_in}
-use Rattle.stop_counting.proofs.Counting.{counted}
+-- `stop_counting::count_in` meets its contract: the slices passed that are in, and those that follow, are all that are in. Assumes nothing.
+use mathlib.Core.Path.{sym, ◌∙◌}
+use Prim.Native.Nat.{◌<◌, min}
+use native.Mathlib.Omega.{arith}
+use lib.ListN.{length}
+use borrow.Author.Rules.{rules}
+use Rattle.stop_counting.proofs.Counting.{in_hit, in_miss, in_end}
 use Rattle.stop_counting.proofs.count_in.Goals as goal
+use Rattle.stop_counting.proofs.count_in.Goals.{then-is_in, else-is_in}
+
+pub loop-i-init : goal.loop-i-init
+loop-i-init c = (c.min-slices.ensures, search rules, search rules, omega arith)
+
+pub loop-i-preserved : goal.loop-i-preserved
+loop-i-preserved c =
+    let l = c.loop-i in
+    let a = c.args in
+    let e = c.is_in.ensures in
+    let inside : l.i < min (length a.specified.now) (length a.bits.now) = omega arith in
+    elim c.if-is_in.branch [
+      | then-is_in w ↦ let r = in_hit a.stop a.specified.now a.bits.now l.i inside (sym e ∙ w.if-is_in.true) in (l.invariant.0, omega arith, omega arith, omega arith)
+      | else-is_in w ↦ let r = in_miss a.stop a.specified.now a.bits.now l.i inside (sym e ∙ w.if-is_in.false) in (l.invariant.0, omega arith, omega arith, omega arith)
+    ]
 
 pub returns : goal.returns
 returns c =
+    let l = c.loop-i in
     let a = c.args in
-    rw (counted a.stop a.specified.now a.bits.now)
-    (count_from_yields_List c.filter.result _ c.count.ensures.ran
-    (YieldsList-from_filter _ (on_pair (is_in a.stop)) (YieldsList-from_zip (YieldsList-from_slice a.specified.now cc) (YieldsList-from_slice a.bits.now cc)) c.filter.ensures.closure (λ x b q k. search (rules, tests))))
+    omega (arith, in_end a.stop a.specified.now a.bits.now l.i (omega arith))
