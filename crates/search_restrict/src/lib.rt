@@ -1,9 +1,8 @@
 // A space under an equation: the members whose parity under a mask is the wanted one.
 #![tactic(auto)]
 
-ghost use Rattle.std.specs.Prelude.{◌≡◌, ◌++◌, drop, length, take};
-ghost use Rattle.search_pivot.specs.Pivot.{without};
-ghost use Rattle.search_restrict.specs.Restricted.{restricted, shifted as shifted_of};
+ghost use Rattle.std.specs.Prelude.{◌≡◌};
+ghost use Rattle.search_restrict.specs.Restricted.{restricted_buffer, restricted_if, shifted as shifted_of};
 
 use search_space::Space;
 
@@ -18,11 +17,12 @@ fn shifted(mask: u64, wanted: u64, lowest: u64, pivot: u64) -> u64
     }
 }
 
-// The members whose parity under the mask is the wanted one, or None where there is none. A single state is only read.
-pub fn restrict(vectors: &mut [u64], space: Space, mask: u64, wanted: u64) -> Option<Space>
-    ensures answer { result ≡ restricted mask wanted (take space.free vectors.old) space }
-    ensures buffer { vectors.new ≡ without mask (take space.free vectors.old) ++ drop (length (without mask (take space.free vectors.old))) vectors.old }
+// The members whose parity under the mask is the wanted one, or None where there is none. A single state is only read. A space that is absent stays so, and the buffer as it was.
+pub fn restrict(vectors: &mut [u64], space: Option<Space>, mask: u64, wanted: u64) -> Option<Space>
+    ensures answer { result ≡ restricted_if mask wanted vectors.old space }
+    ensures buffer { vectors.new ≡ restricted_buffer mask vectors.old space }
 {
+    let space = space?;
     if space.free == 0 {
         if words_gf2::odd(space.lowest, mask) == wanted {
             return Some(space);

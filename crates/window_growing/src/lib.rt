@@ -37,7 +37,7 @@ pub fn grow(
             specified: specified[slice],
             bits: bits[slice],
         };
-        let met = window_rows::meet_row(&mut vectors, kept, table, chains, slice, test);
+        let met = window_rows::meet_row(&mut vectors, Some(kept), table, chains, slice, test);
         let Some(left) = met else { return slice };
         kept = left;
         if slice < places {

@@ -45,7 +45,16 @@ fn length_seed(
     let free = spaces[place + 1] as usize;
     let space = Space { lowest, free };
     let vectors = window_spaces::load(spaces, place, free);
-    window_lowest::lowest_covering(sought, masks, table, stops, specified, bits, space, vectors)
+    window_lowest::lowest_covering(
+        sought,
+        masks,
+        table,
+        stops,
+        specified,
+        bits,
+        Some(space),
+        vectors,
+    )
 }
 
 // The longest of the lengths up to one that some state covers, and its seed, or none.

@@ -37,9 +37,8 @@ pub fn most_quiet(
             specified: specified[slice],
             bits: bits[slice],
         };
-        let met = window_rows::meet_row(&mut vectors, kept, table, chains, slice, test);
-        let Some(left) = met else { return slice };
-        let forced = search_forcing::force_row(pattern, stops, slice, &mut vectors, left);
+        let met = window_rows::meet_row(&mut vectors, Some(kept), table, chains, slice, test);
+        let forced = search_forcing::force_row(pattern, stops, slice, &mut vectors, met);
         let Some(quiet) = forced else { return slice };
         kept = quiet;
     }

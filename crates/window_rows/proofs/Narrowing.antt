@@ -3,10 +3,12 @@
 --     narrows_same, narrowed_same     two conditions that are one
 --     narrows_then, narrowed_then     one condition after another
 --     narrowed_stop      no member is left before the other is asked
+--     narrowed_onward    one condition after another, where the first may leave none
 --     narrowed_restrict  an equation
 --     Toward         what is left to ask, asked from here, is the whole asked from the start
 -- Assumes nothing.
 use Rattle.std.specs.Prelude.{None, Option, Some}
+use Rattle.std.proofs.lemmas.Option.{none-some}
 use mathlib.Core.Path.{◌≡◌, refl, sym, ◌∙◌}
 use mathlib.Core.Bool.{Bool, true, ◌&&◌}
 use mathlib.Core.List.{List, ◌++◌}
@@ -21,7 +23,7 @@ use Rattle.search_pivot.specs.Pivot.{pivot, without}
 use Rattle.search_restrict.specs.Restricted.{shifted, restricted}
 use Rattle.search_space.proofs.Members.{among_is, is_among}
 use Rattle.search_restrict.proofs.Restricting.{restricts, restricted_none, restricted-left, restrict_sound, restrict_complete, restrict_rising}
-use Rattle.window_rows.specs.Narrowing.{Narrows, Narrowed}
+use Rattle.window_rows.specs.Narrowing.{Narrows, Narrowed, NarrowedIf}
 
 pub narrows_none : (y : Space) (vs : List ℕ) → Narrows (λ s. true) y vs y vs
 narrows_none y vs = record { sound = λ s m. (m, refl); complete = λ s m q. m; rising = λ r. r }
@@ -53,6 +55,12 @@ narrowed_then P Q y vs z ws (Some u) out c d = narrows_then P Q y vs z ws u (tak
 
 pub narrowed_stop : (P Q : ℕ → Bool) (y : Space) (vs out new : List ℕ) → Narrowed P y vs None out → Narrowed (λ s. P s && Q s) y vs None new
 narrowed_stop P Q y vs out new c = λ s m. rw (c s m)
+
+pub narrowed_onward : (P Q : ℕ → Bool) (y : Space) (vs : List ℕ) (z : Option Space) (l : List ℕ) (u : Option Space) (out : List ℕ)
+    → Narrowed P y vs z l → NarrowedIf Q z l u out → Narrowed (λ s. P s && Q s) y vs u out
+narrowed_onward P Q y vs None l None out c d = narrowed_stop P Q y vs l out c
+narrowed_onward P Q y vs None l (Some u) out c d = absurd (none-some u (sym d.0))
+narrowed_onward P Q y vs (Some z) l u out c d = narrowed_then P Q y vs z (take z.free l) u out c d
 
 module _ (mask b : ℕ) (lt : b < 2) (y : Space) (vs : List ℕ) where
   abbrev low : ℕ

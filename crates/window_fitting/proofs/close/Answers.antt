@@ -1,5 +1,4 @@
 -- `window_fitting::close` meets its contract. Assumes nothing.
-use lib.ListN.{take}
 use Rattle.window_fitting.proofs.Closing.{closed_yes, closed_no}
 use Rattle.window_fitting.proofs.close.Goals as goal
 
@@ -7,9 +6,9 @@ pub returns-then-closing : goal.returns-then-closing
 returns-then-closing c =
     let a = c.args in
     let m = c.meet_row in
-    closed_yes a.chains a.table.now a.stop a.slices a.space (take a.space.free a.vectors.now) m.result m.new.vectors a.closing c.if-closing.true m.ensures
+    closed_yes a.chains a.table.now a.stop a.slices a.vectors.now a.space m.result m.new.vectors a.closing c.if-closing.true m.ensures
 
 pub returns : goal.returns
 returns c =
     let a = c.args in
-    closed_no a.chains a.table.now a.stop a.slices a.space (take a.space.free a.vectors.now) a.closing c.if-closing.false
+    closed_no a.chains a.table.now a.stop a.slices a.vectors.now a.space a.closing c.if-closing.false

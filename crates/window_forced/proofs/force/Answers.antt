@@ -11,10 +11,11 @@ loop-kept-init c = keeps_none _ _ _
 pub returns-in_err-kept-2 : goal.returns-in_err-kept-2
 returns-in_err-kept-2 c =
     let a = c.args in
+    let y = c.in_ok-space.space in
     let k = c.in_ok-kept.kept in
     let l = c.loop-kept in
-    rw c.from_residual-in_err-kept-2.ensures (kept_then (clear a.pattern a.stops.now a.rows) a.space (take a.space.free a.vectors.now) l.kept (take l.kept.free l.vectors) None c.force_rows-in-loop-kept.new.vectors
-    (kept_then (clear a.pattern a.stops.now a.rows) a.space (take a.space.free a.vectors.now) k (take k.free c.force_rows.new.vectors) (Some l.kept) l.vectors c.in_ok-kept.ensures l.invariant) c.in_err-kept-2.ensures)
+    rw (c.in_ok-space.was, c.from_residual-in_err-kept-2.ensures) (kept_then (clear a.pattern a.stops.now a.rows) y (take y.free a.vectors.now) l.kept (take l.kept.free l.vectors) None c.force_rows-in-loop-kept.new.vectors
+    (kept_then (clear a.pattern a.stops.now a.rows) y (take y.free a.vectors.now) k (take k.free c.force_rows.new.vectors) (Some l.kept) l.vectors c.in_ok-kept.ensures l.invariant) c.in_err-kept-2.ensures)
 
 pub loop-kept-preserved : goal.loop-kept-preserved
 loop-kept-preserved c =
@@ -26,6 +27,7 @@ loop-kept-preserved c =
 pub returns : goal.returns
 returns c =
     let a = c.args in
+    let y = c.in_ok-space.space in
     let k = c.in_ok-kept.kept in
     let l = c.loop-kept in
-    kept_then (clear a.pattern a.stops.now a.rows) a.space (take a.space.free a.vectors.now) k (take k.free c.force_rows.new.vectors) (Some l.kept) l.vectors c.in_ok-kept.ensures l.invariant
+    rw c.in_ok-space.was (kept_then (clear a.pattern a.stops.now a.rows) y (take y.free a.vectors.now) k (take k.free c.force_rows.new.vectors) (Some l.kept) l.vectors c.in_ok-kept.ensures l.invariant)

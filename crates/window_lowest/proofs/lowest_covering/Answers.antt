@@ -2,21 +2,16 @@
 use mathlib.Core.Path.{sym, ◌∙◌}
 use Prim.Native.Nat.{suc}
 use native.Mathlib.Omega.{arith}
-use lib.ListN.{length, take}
+use lib.ListN.{length}
 use Rattle.machine_slices.proofs.Formed.{slice-formed, stop-slice}
 use Rattle.search_rows.proofs.Reading.{row_fits}
 use Rattle.window_tables.proofs.Tables.{stop-rows}
-use Rattle.window_lowest.proofs.Seeds.{seed-open, seed-shown, seed_rising, seed_lowest}
+use Rattle.window_lowest.proofs.Seeds.{seed-shown, seed_rising, seed_lowest}
 use Rattle.window_lowest.proofs.lowest_covering.Goals as goal
 
-pub close-requires : goal.close-requires
-close-requires c =
+pub close-allowed-requires : goal.close-allowed-requires
+close-allowed-requires c =
     let a = c.args in record { specified_bound = (slice-formed (length a.masks.now) a.sought.stop (stop-slice (length a.masks.now) a.sought.stop c.requires.ready.stop)).among; chains_in_bounds = row_fits (length a.specified.now) (suc (length a.specified.now)) (length a.masks.now) (length a.table.now) (omega arith) c.requires.ready.table.long }
-
-pub returns-in_err-allowed : goal.returns-in_err-allowed
-returns-in_err-allowed c =
-    let a = c.args in
-    c.from_residual.ensures ∙ sym (seed-open a.sought.settings a.masks.now a.sought.stop a.sought.pattern a.table.now a.stops.now a.specified.now a.bits.now c.requires.ready c.requires.slices a.sought.closing a.space (take a.space.free a.vectors) c.requires.met c.close.new.vectors c.in_err-allowed.ensures)
 
 pub force-requires : goal.force-requires
 force-requires c =
@@ -26,16 +21,16 @@ force-requires c =
 pub returns-in_err-forced : goal.returns-in_err-forced
 returns-in_err-forced c =
     let a = c.args in
-    c.from_residual-in_err-forced.ensures ∙ sym (seed-shown a.sought.settings a.masks.now a.sought.stop a.sought.pattern a.table.now a.stops.now a.specified.now a.bits.now c.requires.ready c.requires.slices a.sought.closing a.space (take a.space.free a.vectors) c.requires.met c.in_ok-allowed.allowed c.close.new.vectors c.in_ok-allowed.ensures c.force.new.vectors c.in_err-forced.ensures)
+    let w = c.close-allowed in
+    c.from_residual.ensures ∙ sym (seed-shown a.sought.settings a.masks.now a.sought.stop a.sought.pattern a.table.now a.stops.now a.specified.now a.bits.now c.requires.ready c.requires.slices a.sought.closing a.space a.vectors c.requires.met w.result w.new.vectors w.ensures c.force.new.vectors c.in_err-forced.ensures)
 
 pub lowest_clear-requires : goal.lowest_clear-requires
 lowest_clear-requires c =
     let a = c.args in
-    let z = c.in_ok-forced.forced in record { rising = seed_rising a.sought.settings a.masks.now a.sought.stop a.sought.pattern a.table.now a.stops.now a.specified.now a.bits.now c.requires.ready c.requires.slices a.sought.closing a.space (take a.space.free a.vectors) c.requires.met c.in_ok-allowed.allowed c.close.new.vectors c.in_ok-allowed.ensures z (take z.free c.force.new.vectors) c.in_ok-forced.ensures; columns_in_bounds = stop-rows a.sought.settings a.masks.now a.sought.stop a.sought.pattern a.table.now a.stops.now (length a.specified.now) c.requires.ready }
+    let w = c.close-allowed in record { rising = seed_rising a.sought.settings a.masks.now a.sought.stop a.sought.pattern a.table.now a.stops.now a.specified.now a.bits.now c.requires.ready c.requires.slices a.sought.closing a.space a.vectors c.requires.met w.result w.new.vectors w.ensures c.force.new.vectors c.in_ok-forced.forced c.in_ok-forced.ensures; columns_in_bounds = stop-rows a.sought.settings a.masks.now a.sought.stop a.sought.pattern a.table.now a.stops.now (length a.specified.now) c.requires.ready }
 
 pub returns : goal.returns
 returns c =
     let a = c.args in
-    let z = c.in_ok-forced.forced in
-    c.lowest_clear.ensures
-    ∙ seed_lowest a.sought.settings a.masks.now a.sought.stop a.sought.pattern a.table.now a.stops.now a.specified.now a.bits.now c.requires.ready c.requires.slices a.sought.closing a.space (take a.space.free a.vectors) c.requires.met c.in_ok-allowed.allowed c.close.new.vectors c.in_ok-allowed.ensures z (take z.free c.force.new.vectors) c.in_ok-forced.ensures
+    let w = c.close-allowed in
+    c.lowest_clear.ensures ∙ seed_lowest a.sought.settings a.masks.now a.sought.stop a.sought.pattern a.table.now a.stops.now a.specified.now a.bits.now c.requires.ready c.requires.slices a.sought.closing a.space a.vectors c.requires.met w.result w.new.vectors w.ensures c.force.new.vectors c.in_ok-forced.forced c.in_ok-forced.ensures

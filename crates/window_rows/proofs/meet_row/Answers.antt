@@ -10,4 +10,4 @@ meet-requires c =
 
 pub returns : goal.returns
 returns c =
-    rw (sym (row_part c.args.chains c.args.table.now c.args.row)) c.meet.ensures
+    rw (c.in_ok-space.was, sym (row_part c.args.chains c.args.table.now c.args.row)) c.meet.ensures
