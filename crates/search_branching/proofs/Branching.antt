@@ -1,7 +1,10 @@
 -- What the search keeps while it branches on a row in which the lowest member x shows the pattern: column by column, the members that read otherwise than x are searched, and those that read as x does are the rest.
 --     finds_pruned, finds_lowest     nothing here is lower; x itself is clear
---     Branched            the rest reads the columns passed as x does; whatever else is clear is reached
---     branched_start, branched_same, branched_child, branched_end     at the start, without a pivot, with a child that was searched, and at the end
+--     Parted              the rest reads the columns passed as x does; whatever else is clear is reached
+--     parted_start, parted_same, parted_child, parted_end     at the start, without a pivot, with a child that was searched, and at the end
+--     parted_rising, parted_shorter     the vectors of a child rise, and are fewer
+--     Branched            the same of columns that the row has
+--     branched_start, branched_same, branched_child, branched_end     its steps
 --     child_rising, child_shorter     the vectors of a child rise, and are fewer
 -- Assumes nothing.
 use Rattle.std.specs.Prelude.{None, Option, Some}
@@ -56,8 +59,7 @@ module _ (p : Pattern) (table : List ℕ) (m : ℕ) where
     abbrev mask : ℕ → ℕ
     mask j = get_or ms j 0
 
-    pub record Branched (rest : List ℕ) (found : Option ℕ) (j : ℕ) : Type 0 where
-      pub within : j ≤ length ms
+    pub record Parted (rest : List ℕ) (found : Option ℕ) (j : ℕ) : Type 0 where
       pub rising : Rising x 0 rest
       pub shorter : length rest ≤ length vs
       pub sub : (s : ℕ) → Among x rest s → Among x vs s
@@ -65,9 +67,8 @@ module _ (p : Pattern) (table : List ℕ) (m : ℕ) where
       pub kept : Kept (Passes p table m x vs) a found
       pub reached : (s : ℕ) → s < 2 ^ 64 → Passes p table m x vs s → Reached found s ⊎ Among x rest s
 
-    pub branched_start : Rising x 0 vs → Branched vs a 0
-    branched_start r = record {
-      within = omega arith;
+    pub parted_start : Rising x 0 vs → Parted vs a 0
+    parted_start r = record {
       rising = r;
       shorter = omega arith;
       sub = λ s h. h;
@@ -77,9 +78,8 @@ module _ (p : Pattern) (table : List ℕ) (m : ℕ) where
     }
 
     -- no member of the rest reads otherwise than x
-    pub branched_same : (rest : List ℕ) (found : Option ℕ) (j : ℕ) → j < length ms → pivot (mask j) rest ≡ 0 → Branched rest found j → Branched (without (mask j) rest) found (j + 1)
-    branched_same rest found j lt z b = subst (λ (l : List ℕ). Branched l found (j + 1)) (sym (without-same (mask j) rest z)) (record {
-      within = omega arith;
+    pub parted_same : (rest : List ℕ) (found : Option ℕ) (j : ℕ) → pivot (mask j) rest ≡ 0 → Parted rest found j → Parted (without (mask j) rest) found (j + 1)
+    parted_same rest found j z b = subst (λ (l : List ℕ). Parted l found (j + 1)) (sym (without-same (mask j) rest z)) (record {
       rising = b.rising;
       shorter = b.shorter;
       sub = b.sub;
@@ -88,7 +88,7 @@ module _ (p : Pattern) (table : List ℕ) (m : ℕ) where
       reached = b.reached;
     })
 
-    module _ (rest : List ℕ) (found r : Option ℕ) (j : ℕ) (n : pivot (mask j) rest ≡ 0 → ⊥) (b : Branched rest found j) where
+    module _ (rest : List ℕ) (found r : Option ℕ) (j : ℕ) (n : pivot (mask j) rest ≡ 0 → ⊥) (b : Parted rest found j) where
       abbrev y : ℕ
       y = bit_xor x (pivot (mask j) rest)
 
@@ -102,9 +102,8 @@ module _ (p : Pattern) (table : List ℕ) (m : ℕ) where
           alike_kept (mask j) rest y s (pivot_moves (mask j) rest x s n h)
           (omega (arith, xor-odd x (pivot (mask j) rest) (mask j), pivot_parity (mask j) rest n, odd_lt x (mask j), odd_lt s (mask j)))
 
-      pub branched_child : j < length ms → Finds (Passes p table m y (without (mask j) rest)) found r → Branched (without (mask j) rest) r (j + 1)
-      branched_child lt f = record {
-        within = omega arith;
+      pub parted_child : Finds (Passes p table m y (without (mask j) rest)) found r → Parted (without (mask j) rest) r (j + 1)
+      parted_child f = record {
         rising = rising_kept (mask j) rest b.rising;
         shorter = omega (arith, b.shorter, without_shorter (mask j) rest n);
         sub = λ s h. b.sub s (kept_alike (mask j) rest x s h).0;
@@ -119,17 +118,17 @@ module _ (p : Pattern) (table : List ℕ) (m : ℕ) where
             (b.reached s w h);
       }
 
-      pub child_rising : Rising y 0 (without (mask j) rest)
-      child_rising = rising_moved (mask j) rest n b.rising
+      pub parted_rising : Rising y 0 (without (mask j) rest)
+      parted_rising = rising_moved (mask j) rest n b.rising
 
-      pub child_shorter : length (without (mask j) rest) < length vs
-      child_shorter = omega (arith, b.shorter, without_shorter (mask j) rest n)
+      pub parted_shorter : length (without (mask j) rest) < length vs
+      parted_shorter = omega (arith, b.shorter, without_shorter (mask j) rest n)
 
     -- every column is passed: the rest shows the pattern in row t
-    pub branched_end : (t : ℕ) (rest : List ℕ) (found : Option ℕ) (j : ℕ) → ms ≡ row p.columns table t → length ms ≤ j → t < m → shown p table t x ≡ true → Branched rest found j
+    pub parted_end : (t : ℕ) (rest : List ℕ) (found : Option ℕ) (j : ℕ) → ms ≡ row p.columns table t → length ms ≤ j → t < m → shown p table t x ≡ true → Parted rest found j
         → Finds (Passes p table m x vs) a found
     unfolding shown
-    branched_end t rest found j e h lt sh b = record {
+    parted_end t rest found j e h lt sh b = record {
       kept = b.kept;
       all = λ s w q. ⊎_elim
           (λ r. r)
@@ -139,3 +138,41 @@ module _ (p : Pattern) (table : List ℕ) (m : ℕ) where
       where
         alike : (s : ℕ) → Among x rest s → reads (row p.columns table t) p.bits s ≡ reads (row p.columns table t) p.bits x
         alike s i = rw (sym e) (reads_alike ms p.bits s x (λ c l. b.equal s i c (omega arith)))
+
+    -- ---- columns that the row has
+
+    pub record Branched (rest : List ℕ) (found : Option ℕ) (j : ℕ) : Type 0 where
+      pub within : j ≤ length ms
+      pub rising : Rising x 0 rest
+      pub shorter : length rest ≤ length vs
+      pub sub : (s : ℕ) → Among x rest s → Among x vs s
+      pub equal : (s : ℕ) → Among x rest s → (i : ℕ) → i < j → odd s (mask i) ≡ odd x (mask i)
+      pub kept : Kept (Passes p table m x vs) a found
+      pub reached : (s : ℕ) → s < 2 ^ 64 → Passes p table m x vs s → Reached found s ⊎ Among x rest s
+
+    module _ (rest : List ℕ) (found : Option ℕ) (j : ℕ) where
+      pub branched_parted : Branched rest found j → Parted rest found j
+      branched_parted b = record { rising = b.rising; shorter = b.shorter; sub = b.sub; equal = b.equal; kept = b.kept; reached = b.reached }
+
+      pub parted_branched : j ≤ length ms → Parted rest found j → Branched rest found j
+      parted_branched h b = record { within = h; rising = b.rising; shorter = b.shorter; sub = b.sub; equal = b.equal; kept = b.kept; reached = b.reached }
+
+    pub branched_start : Rising x 0 vs → Branched vs a 0
+    branched_start r = parted_branched vs a 0 (omega arith) (parted_start r)
+
+    pub branched_same : (rest : List ℕ) (found : Option ℕ) (j : ℕ) → j < length ms → pivot (mask j) rest ≡ 0 → Branched rest found j → Branched (without (mask j) rest) found (j + 1)
+    branched_same rest found j lt z b = parted_branched (without (mask j) rest) found (j + 1) (omega arith) (parted_same rest found j z (branched_parted rest found j b))
+
+    module _ (rest : List ℕ) (found r : Option ℕ) (j : ℕ) (n : pivot (mask j) rest ≡ 0 → ⊥) (b : Branched rest found j) where
+      pub branched_child : j < length ms → Finds (Passes p table m (bit_xor x (pivot (mask j) rest)) (without (mask j) rest)) found r → Branched (without (mask j) rest) r (j + 1)
+      branched_child lt f = parted_branched (without (mask j) rest) r (j + 1) (omega arith) (parted_child rest found r j n (branched_parted rest found j b) f)
+
+      pub child_rising : Rising (bit_xor x (pivot (mask j) rest)) 0 (without (mask j) rest)
+      child_rising = parted_rising rest found r j n (branched_parted rest found j b)
+
+      pub child_shorter : length (without (mask j) rest) < length vs
+      child_shorter = parted_shorter rest found r j n (branched_parted rest found j b)
+
+    pub branched_end : (t : ℕ) (rest : List ℕ) (found : Option ℕ) (j : ℕ) → ms ≡ row p.columns table t → length ms ≤ j → t < m → shown p table t x ≡ true → Branched rest found j
+        → Finds (Passes p table m x vs) a found
+    branched_end t rest found j e h lt sh b = parted_end t rest found j e h lt sh (branched_parted rest found j b)

@@ -6,7 +6,7 @@ use lib.ListN.{length}
 use Rattle.machine_slices.proofs.Formed.{slice-formed, stop-slice}
 use Rattle.search_rows.proofs.Reading.{row_fits}
 use Rattle.window_tables.proofs.Tables.{stop-rows}
-use Rattle.window_lowest.proofs.Seeds.{seed-shown, seed_rising, seed_lowest}
+use Rattle.window_lowest.proofs.Seeds.{seed_shown_if, seed_rising_if, seed_lowest_if}
 use Rattle.window_lowest.proofs.lowest_covering.Goals as goal
 
 pub close-allowed-requires : goal.close-allowed-requires
@@ -22,15 +22,15 @@ pub returns-in_err-forced : goal.returns-in_err-forced
 returns-in_err-forced c =
     let a = c.args in
     let w = c.close-allowed in
-    c.from_residual.ensures ∙ sym (seed-shown a.sought.settings a.masks.now a.sought.stop a.sought.pattern a.table.now a.stops.now a.specified.now a.bits.now c.requires.ready c.requires.slices a.sought.closing a.space a.vectors c.requires.met w.result w.new.vectors w.ensures c.force.new.vectors c.in_err-forced.ensures)
+    c.from_residual.ensures ∙ sym (seed_shown_if a.sought.settings a.masks.now a.sought.stop a.sought.pattern a.table.now a.stops.now a.specified.now a.bits.now c.requires.ready c.requires.slices a.sought.closing a.space a.vectors c.requires.met w.result w.new.vectors w.ensures c.force.new.vectors c.in_err-forced.ensures)
 
 pub lowest_clear-requires : goal.lowest_clear-requires
 lowest_clear-requires c =
     let a = c.args in
-    let w = c.close-allowed in record { rising = seed_rising a.sought.settings a.masks.now a.sought.stop a.sought.pattern a.table.now a.stops.now a.specified.now a.bits.now c.requires.ready c.requires.slices a.sought.closing a.space a.vectors c.requires.met w.result w.new.vectors w.ensures c.force.new.vectors c.in_ok-forced.forced c.in_ok-forced.ensures; columns_in_bounds = stop-rows a.sought.settings a.masks.now a.sought.stop a.sought.pattern a.table.now a.stops.now (length a.specified.now) c.requires.ready }
+    let w = c.close-allowed in record { rising = seed_rising_if a.sought.settings a.masks.now a.sought.stop a.sought.pattern a.table.now a.stops.now a.specified.now a.bits.now c.requires.ready c.requires.slices a.sought.closing a.space a.vectors c.requires.met w.result w.new.vectors w.ensures c.force.new.vectors c.in_ok-forced.forced c.in_ok-forced.ensures; columns_in_bounds = stop-rows a.sought.settings a.masks.now a.sought.stop a.sought.pattern a.table.now a.stops.now (length a.specified.now) c.requires.ready }
 
 pub returns : goal.returns
 returns c =
     let a = c.args in
     let w = c.close-allowed in
-    c.lowest_clear.ensures ∙ seed_lowest a.sought.settings a.masks.now a.sought.stop a.sought.pattern a.table.now a.stops.now a.specified.now a.bits.now c.requires.ready c.requires.slices a.sought.closing a.space a.vectors c.requires.met w.result w.new.vectors w.ensures c.force.new.vectors c.in_ok-forced.forced c.in_ok-forced.ensures
+    c.lowest_clear.ensures ∙ seed_lowest_if a.sought.settings a.masks.now a.sought.stop a.sought.pattern a.table.now a.stops.now a.specified.now a.bits.now c.requires.ready c.requires.slices a.sought.closing a.space a.vectors c.requires.met w.result w.new.vectors w.ensures c.force.new.vectors c.in_ok-forced.forced c.in_ok-forced.ensures

@@ -8,7 +8,7 @@ use Rattle.machine_slices.proofs.Formed.{slices_length}
 use Rattle.search_rows.proofs.Reading.{row_fits}
 use Rattle.window_quiet.specs.Quiet.{quiet_meet}
 use Rattle.window_rows.proofs.Fitting.{row_asked, most_end}
-use Rattle.window_quiet.proofs.Quiet.{quiet-start, quiet_next, quiet-stop}
+use Rattle.window_quiet.proofs.Quiet.{quiet-start, quiet_next_if, quiet_stop_if}
 use Rattle.window_quiet.proofs.most_quiet.Goals as goal
 
 pub loop-slice-init : goal.loop-slice-init
@@ -35,7 +35,7 @@ returns-in_default c =
     let a = c.args in
     let l = c.loop-slice in
     let m = c.meet_row-met in
-    quiet-stop a.chains a.table.now a.pattern a.stops.now a.specified.now a.bits.now c.requires.slices a.cells l.slice l.kept (take l.kept.free l.vectors) c.loop-slice-test.true l.invariant m.new.vectors m.result m.ensures c.in_default.ensures.answer
+    quiet_stop_if a.chains a.table.now a.pattern a.stops.now a.specified.now a.bits.now c.requires.slices a.cells l.slice l.kept (take l.kept.free l.vectors) c.loop-slice-test.true l.invariant m.new.vectors m.result m.ensures c.in_default.ensures.answer
 
 pub loop-slice-preserved : goal.loop-slice-preserved
 loop-slice-preserved c =
@@ -43,7 +43,7 @@ loop-slice-preserved c =
     let l = c.loop-slice in
     let m = c.meet_row-met in
     let e = c.in-Some.ensures in
-    quiet_next a.chains a.table.now a.pattern a.stops.now a.specified.now a.bits.now c.requires.slices a.cells l.slice l.kept (take l.kept.free l.vectors) c.loop-slice-test.true l.invariant m.new.vectors m.result m.ensures c.in-Some.quiet c.force_row-forced.new.vectors e.answer e.buffer
+    quiet_next_if a.chains a.table.now a.pattern a.stops.now a.specified.now a.bits.now c.requires.slices a.cells l.slice l.kept (take l.kept.free l.vectors) c.loop-slice-test.true l.invariant m.new.vectors m.result m.ensures c.in-Some.quiet c.force_row-forced.new.vectors e.answer e.buffer
 
 pub returns : goal.returns
 returns c =
